@@ -1,0 +1,15 @@
+pub mod Lists
+pub mod Problem
+pub mod Checks
+pub mod State
+pub mod Redundant
+pub mod Blocked
+pub mod Rounds
+pub mod Result
+pub mod Renumber
+pub mod Cover
+pub mod Paper
+pub mod Outcome
+pub mod Samples
+pub mod Cases
+pub mod Promises
