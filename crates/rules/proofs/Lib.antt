@@ -5,3 +5,6 @@ pub mod StateFacts
 pub mod Redundancy
 pub mod Blocking
 pub mod Preserve
+pub mod Soundness
+pub mod CauseThree
+pub mod PaperFacts

@@ -2,7 +2,7 @@
 -- back". Assumes nothing.
 use Prim.Native.Nat.{ℕ, suc, _+_, _-_}
 use mathlib.Core.Bool.{Bool, true, false, not, _&&_, _||_, cond}
-use mathlib.Core.List.{List, [], _∷_}
+use mathlib.Core.List.{List, [], _∷_, _++_}
 use mathlib.Core.Option.{Option, none, some}
 use lib.Dec.{ltb, eqb}
 use lib.ListN.{length, getD}
@@ -101,21 +101,26 @@ checkOptions np n colour i (o ∷ os) =
     let r = checkOptions np n colour (i + length o) os in
     orElse (checkOption np n colour i [] o) r
 
+-- 10 to 15, of the counts: np and ns items, M options, E entries; `differ` says that item and colour lists differ in length
+abbrev pub sizeChecks : Figures → ℕ → ℕ → ℕ → ℕ → Bool → List (Option Refusal)
+sizeChecks f np ns M E differ =
+    refuse 10 0 (eqb np 0)
+    ∷ refuse 11 0 (ltb (f .items) (np + ns))
+    ∷ refuse 12 0 (eqb M 0)
+    ∷ refuse 13 0 (ltb (f .options) M)
+    ∷ refuse 14 0 differ
+    ∷ refuse 15 0 (ltb (f .entries) E)
+    ∷ []
+
 -- The whole table, in its order. What is handed in as bytes may be ragged; lists of numbers never are.
 unfoldable pub refusalOf : Figures → Bool → Handed → Option Refusal
 refusalOf f ragged h =
-    let np = h .np in
     let n = h .np + h .ns in
     let M = length (h .ends) in
     let E = length (h .items) in
-    firstOf (refuse 10 0 (eqb np 0)
-    ∷ refuse 11 0 (ltb (f .items) n)
-    ∷ refuse 12 0 (eqb M 0)
-    ∷ refuse 13 0 (ltb (f .options) M)
-    ∷ refuse 14 0 (ragged || not (eqb E (length (h .colours))))
-    ∷ refuse 15 0 (ltb (f .entries) E)
-    ∷ check16 E (h .ends)
+    firstOf (sizeChecks f (h .np) (h .ns) M E (ragged || not (eqb E (length (h .colours))))
+    ++ (check16 E (h .ends)
     ∷ refuse 17 0 (shortRoom n E M (h .room))
     ∷ refuse 18 0 (shortResults n E M (h .results))
-    ∷ checkOptions np n (f .colour) 0 (cut 0 (h .ends) (entriesOf (h .items) (h .colours)))
-    ∷ [])
+    ∷ checkOptions (h .np) n (f .colour) 0 (cut 0 (h .ends) (entriesOf (h .items) (h .colours)))
+    ∷ []))

@@ -13,3 +13,4 @@ pub mod Outcome
 pub mod Samples
 pub mod Cases
 pub mod Promises
+pub mod Sizing
