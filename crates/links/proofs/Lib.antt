@@ -1,0 +1,5 @@
+pub mod Signed
+pub mod Stores
+pub mod Rings
+pub mod Plans
+pub mod Tallies

@@ -1,0 +1,19 @@
+-- What a head says: the item of an entry, the length of a column, or the option before a boundary. Assumes nothing.
+use Prim.Native.Nat.{ℕ}
+use mathlib.Core.List.{List}
+use lib.ListN.{getD}
+use lib.IntN.{ℤ, pos, negsuc}
+
+-- above 0 the item + 1, else 0
+abbrev pub itemOf : ℤ → ℕ
+itemOf (pos i) = i
+itemOf (negsuc k) = 0
+
+-- at a boundary, minus (k + 1), the option number k
+abbrev pub optionOf : ℤ → ℕ
+optionOf (pos i) = 0
+optionOf (negsuc k) = k
+
+-- the head at a node
+abbrev pub head : List ℤ → ℕ → ℤ
+head heads x = getD heads x (pos 0)

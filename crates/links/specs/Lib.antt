@@ -1,0 +1,5 @@
+pub mod Head
+pub mod Column
+pub mod Plan
+pub mod Ground
+pub mod Row
