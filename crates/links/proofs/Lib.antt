@@ -3,3 +3,4 @@ pub mod Stores
 pub mod Rings
 pub mod Plans
 pub mod Tallies
+pub mod Grounds

@@ -1,0 +1,148 @@
+-- Taking an entry out of its column keeps the lists tidy, putting it back gives the very lists, and what nodes taken one after another leave
+-- as it was. Assumes nothing.
+use Prim.Native.Nat.{ℕ, zero, suc, _+_, _-_, _<_, _≤_}
+use native.Mathlib.Omega.{arith}
+use mathlib.Core.Path.{_≡_, refl, _∙_, ap, sym, subst}
+use mathlib.Core.Logic.{_⊎_, inl, inr, ⊎-elim, _≢_}
+use mathlib.Core.Bool.{Bool, true, false, not, _&&_, cond, false≢true, true≢false}
+use mathlib.Core.List.{List, [], _∷_, _++_, List·Memᴰ as In, List·Memᴰ·head as here, List·Memᴰ·tail as next}
+use borrow.Author.Tests.{eq-eqb, ne-eqb}
+use lib.Dec.{T, eqb}
+use lib.ListN.{length, getD, set, length-set}
+use lib.Seq.{getD-set-same, getD-set-other, set-set, set-getD}
+use lib.IntN.{ℤ, pos, negsuc}
+use Rattle.rules.specs.Lists.{mem}
+use Rattle.rules.proofs.Tests.{T-dec, T-true, T-false}
+use Rattle.links.specs.Head.{itemOf, head}
+use Rattle.links.specs.Column.{at, cutUp, cutDown, tieUp, tieDown, without, Ring}
+use Rattle.links.specs.Plan.{Plan, start, lo, hi, EntryOf, Header, Planned}
+use Rattle.links.specs.Ground.{Ground, tally, Short, Edge, Tidy, Within, cutHeads, cutOne, taken, Fresh, Holds}
+use Rattle.links.proofs.Stores.{same?, read-set}
+use Rattle.links.proofs.Rings.{without→, without←, without-other, without-off, above-in, below-in, tie-down, tie-up, ring-cut}
+use Rattle.links.proofs.Plans.{entry-from, entry-till, entry-not-col, entry-no-header, header-before, past-no-entry, past-no-header, before-no-entry, before-no-header}
+use Rattle.links.proofs.Tallies.{tally-cut, tally-keep, tally-some, tally-small}
+
+-- A node that is neither a header nor an entry is in no column.
+pub off-column : (g : Ground) → Tidy g → (y : ℕ) → (Header (g .plan) y → ⊥) → (EntryOf (g .plan) y → ⊥) → g .on y ≡ false
+off-column g t y nh ne = go (g .on y) refl
+  where
+    go : (b : Bool) → g .on y ≡ b → b ≡ false
+    go true e = absurd (⊎-elim nh ne (t .masked y e))
+    go false e = refl
+
+module _ (g : Ground) (t : Tidy g) where
+  W : Planned (g .plan)
+  W = t .planned
+
+  -- boundaries are in no column
+  pub past-off : (k : ℕ) → k < g .plan .M → g .plan .first k < g .plan .past k → g .on (g .plan .past k) ≡ false
+  past-off k h row = off-column g t (g .plan .past k) (past-no-header (g .plan) W k h row) (past-no-entry (g .plan) W k h row)
+
+  pub before-off : (k : ℕ) → k < g .plan .M → g .plan .first k < g .plan .past k → g .on (g .plan .first k - 1) ≡ false
+  before-off k h row = off-column g t (g .plan .first k - 1) (before-no-header (g .plan) W k h row) (before-no-entry (g .plan) W k h row)
+
+  -- a header's head is a length: at least 1 where an entry is in the column, and small
+  module _ (x : ℕ) (w : Within g x) where
+    col-header : Header (g .plan) (g .plan .col x)
+    col-header = W .entry x (w .entry)
+
+    pub col-in : g .plan .col x < length (g .heads)
+    col-in = omega (arith, header-before (g .plan) W (g .plan .col x) col-header, W .room, t .heads-in)
+
+    pub length-is : head (g .heads) (g .plan .col x) ≡ pos (tally (g .plan) (g .on) (g .plan .col x))
+    length-is = t .counts (g .plan .col x) col-header (w .header)
+
+    pub length-some : 0 < itemOf (head (g .heads) (g .plan .col x))
+    length-some = rw length-is (tally-some (g .plan) (g .on) x (entry-from (g .plan) W x (w .entry)) (entry-till (g .plan) W x (w .entry)) (w .on))
+
+    pub length-small : itemOf (head (g .heads) (g .plan .col x)) < 1048576
+    length-small = rw length-is (omega (arith, tally-small (g .plan) (g .on) (g .plan .col x), W .small))
+
+    -- what unlinking asks of the lists
+    pub node-in : x < g .plan .N
+    node-in = entry-till (g .plan) W x (w .entry)
+
+    pub cut-up-in : at (g .up) x < length (g .down)
+    cut-up-in = above-in (g .plan .N) (g .plan .col) (g .on) (g .up) (g .down) (t .ring) x (w .on)
+
+    pub cut-down-in : at (g .down) x < length (g .up)
+    cut-down-in = below-in (g .plan .N) (g .plan .col) (g .on) (g .up) (g .down) (t .ring) x (w .on)
+
+    -- Off the column of x nothing changes.
+    pub cut-head : (y : ℕ) → y ≢ g .plan .col x → head (cutHeads g x) y ≡ head (g .heads) y
+    cut-head y n = getD-set-other (g .heads) (g .plan .col x) y (pos (itemOf (head (g .heads) (g .plan .col x)) - 1)) (pos 0) n
+
+    pub cut-up-off : (y : ℕ) → g .on y ≡ false → at (cutUp (g .up) (g .down) x) y ≡ at (g .up) y
+    cut-up-off y o = getD-set-other (g .up) (at (g .down) x) y (at (g .up) x) 0 (λ e. false≢true (sym o ∙ ap (g .on) e ∙ t .ring .tied x (w .on) .below-on))
+
+    pub cut-down-off : (y : ℕ) → g .on y ≡ false → at (cutDown (g .up) (g .down) x) y ≡ at (g .down) y
+    cut-down-off y o = getD-set-other (g .down) (at (g .up) x) y (at (g .down) x) 0 (λ e. false≢true (sym o ∙ ap (g .on) e ∙ t .ring .tied x (w .on) .above-on))
+
+    behind-col : (y : ℕ) → start (g .plan) ≤ y → y ≢ g .plan .col x
+    behind-col y h e = omega (arith, header-before (g .plan) W (g .plan .col x) col-header, h, e)
+
+    cut-short : (y : ℕ) → EntryOf (g .plan) y → Short g y → Short (cutOne g x) y
+    unfolding cutOne
+    cut-short y e s = record
+      { none = cut-head y (behind-col y (entry-from (g .plan) W y e)) ∙ s .none
+      ; ahead = cut-up-off y (s .off) ∙ s .ahead
+      ; back = cut-down-off y (s .off) ∙ s .back
+      ; off = without-off (g .on) x y (s .off)
+      }
+
+    cut-edge : (k : ℕ) → k < g .plan .M → g .plan .first k < g .plan .past k → Edge (cutOne g x) k
+    unfolding cutOne
+    cut-edge k h row =
+        let e = t .edge k h row in
+        let f = W .from k h in
+        record
+          { number = cut-head (g .plan .past k) (behind-col (g .plan .past k) (omega arith)) ∙ e .number
+          ; to-first = cut-up-off (g .plan .past k) (past-off k h row) ∙ e .to-first
+          ; none = ap itemOf (cut-head (g .plan .first k - 1) (λ q. before-no-header (g .plan) W k h row (subst (λ (i : ℕ). Header (g .plan) i) (sym q) col-header))) ∙ e .none
+          ; to-last = cut-down-off (g .plan .first k - 1) (before-off k h row) ∙ e .to-last
+          }
+
+    cut-counts : (i : ℕ) → Header (g .plan) i → without (g .on) x i ≡ true → head (cutHeads g x) i ≡ pos (tally (g .plan) (without (g .on) x) i)
+    cut-counts i h o = ⊎-elim own other (same? i (g .plan .col x))
+      where
+        own : i ≡ g .plan .col x → head (cutHeads g x) i ≡ pos (tally (g .plan) (without (g .on) x) i)
+        own e =
+            let c = tally-cut (g .plan) (g .on) x (entry-from (g .plan) W x (w .entry)) node-in (w .on) in
+            let s : itemOf (head (g .heads) (g .plan .col x)) ≡ tally (g .plan) (g .on) (g .plan .col x) = ap itemOf length-is in
+            rw e (getD-set-same (g .heads) (g .plan .col x) (pos (itemOf (head (g .heads) (g .plan .col x)) - 1)) (pos 0) col-in ∙ ap pos (omega arith))
+        other : i ≢ g .plan .col x → head (cutHeads g x) i ≡ pos (tally (g .plan) (without (g .on) x) i)
+        other n = cut-head i n ∙ t .counts i h (without→ (g .on) x i o .1) ∙ ap pos (sym (tally-keep (g .plan) (g .on) x i (λ e. n (sym e))))
+
+    -- Taking x out keeps the lists tidy.
+    pub tidy-cut : Tidy (cutOne g x)
+    unfolding cutOne
+    tidy-cut = record
+      { planned = W
+      ; masked = λ y o. t .masked y (without→ (g .on) x y o .1)
+      ; ring = ring-cut (g .plan .N) (g .plan .col) (g .on) (g .up) (g .down) (t .ring) x (w .on) (entry-not-col (g .plan) W x (w .entry))
+      ; heads-in = rw length-set (t .heads-in)
+      ; counts = cut-counts
+      ; full = λ y e o. cut-head y (behind-col y (entry-from (g .plan) W y e)) ∙ t .full y e (without→ (g .on) x y o .1)
+      ; rows = λ y e. ⊎-elim (λ f. inl (cut-head y (behind-col y (entry-from (g .plan) W y e)) ∙ f)) (λ s. inr (cut-short y e s)) (t .rows y e)
+      ; edge = cut-edge
+      }
+
+    -- Putting it back gives the very lists.
+    pub back-up : tieUp (cutOne g x .up) (cutOne g x .down) x ≡ g .up
+    unfolding cutOne
+    back-up = tie-up (g .plan .N) (g .plan .col) (g .on) (g .up) (g .down) (t .ring) x (w .on)
+
+    pub back-down : tieDown (cutOne g x .up) (cutOne g x .down) x ≡ g .down
+    unfolding cutOne
+    back-down = tie-down (g .plan .N) (g .plan .col) (g .on) (g .up) (g .down) (t .ring) x (w .on)
+
+    pub cut-length : itemOf (head (cutOne g x .heads) (g .plan .col x)) ≡ itemOf (head (g .heads) (g .plan .col x)) - 1
+    unfolding cutOne
+    cut-length = ap itemOf (getD-set-same (g .heads) (g .plan .col x) (pos (itemOf (head (g .heads) (g .plan .col x)) - 1)) (pos 0) col-in)
+
+    pub back-heads : set (cutOne g x .heads) (g .plan .col x) (pos (itemOf (head (cutOne g x .heads) (g .plan .col x)) + 1)) ≡ g .heads
+    back-heads = rw cut-length (again (itemOf (head (g .heads) (g .plan .col x))) refl length-some)
+      where
+        again : (l : ℕ) → itemOf (head (g .heads) (g .plan .col x)) ≡ l → 0 < l → set (cutOne g x .heads) (g .plan .col x) (pos (l - 1 + 1)) ≡ g .heads
+        unfolding cutOne
+        again l e h = ?
