@@ -4,3 +4,6 @@ pub mod Rings
 pub mod Plans
 pub mod Tallies
 pub mod Grounds
+pub mod Spans
+pub mod Rows
+pub mod Gathering
