@@ -17,5 +17,5 @@ unfolding problemOf refusalOf check16 shortRoom shortResults checkEntry around r
 samples-hold = record { outcomes = refl; compacts = refl; crates = refl }
 
 pub cases-hold : CasesHold
-unfolding refusalOf check16 shortRoom shortResults checkEntry
-cases-hold = record { refusals = refl }
+unfolding refusalOf check16 shortRoom shortResults checkEntry sd crateItem renumberRefusal compactOutcome crateOutcome
+cases-hold = record { refusals = refl; compacts = refl; crates = refl }
