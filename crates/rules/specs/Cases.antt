@@ -55,122 +55,122 @@ abbrev pub cases : List Case
 cases =
     -- taken, with exactly the room that is asked for
     case 1 1 (0 ∷ 1 ∷ []) (0 ∷ 1 ∷ []) (2 ∷ [])
-      (7 ∷ 7 ∷ 7 ∷ 7 ∷ 3 ∷ 2 ∷ 1 ∷ 1 ∷ 2 ∷ 2 ∷ []) none
+    (7 ∷ 7 ∷ 7 ∷ 7 ∷ 3 ∷ 2 ∷ 1 ∷ 1 ∷ 2 ∷ 2 ∷ []) none
     -- 10, before all else
     ∷ case 0 4294967295 (5 ∷ []) [] []
-      (3 ∷ 3 ∷ 3 ∷ 3 ∷ 1 ∷ 0 ∷ 0 ∷ 0 ∷ 1 ∷ 1 ∷ []) (refused 10 0)
+    (3 ∷ 3 ∷ 3 ∷ 3 ∷ 1 ∷ 0 ∷ 0 ∷ 0 ∷ 1 ∷ 1 ∷ []) (refused 10 0)
     -- 11: the true sum; a figure's last is taken, the next is not
     ∷ case 2 1 (0 ∷ 1 ∷ []) (0 ∷ 1 ∷ []) (2 ∷ [])
-      (8 ∷ 8 ∷ 8 ∷ 8 ∷ 4 ∷ 3 ∷ 1 ∷ 1 ∷ 2 ∷ 2 ∷ []) (refused 11 0)
+    (8 ∷ 8 ∷ 8 ∷ 8 ∷ 4 ∷ 3 ∷ 1 ∷ 1 ∷ 2 ∷ 2 ∷ []) (refused 11 0)
     ∷ case 4294967295 4294967295 (0 ∷ 1 ∷ []) (0 ∷ 1 ∷ []) (2 ∷ [])
-      (5 ∷ 5 ∷ 5 ∷ 5 ∷ 1 ∷ 0 ∷ 1 ∷ 1 ∷ 2 ∷ 2 ∷ []) (refused 11 0)
+    (5 ∷ 5 ∷ 5 ∷ 5 ∷ 1 ∷ 0 ∷ 1 ∷ 1 ∷ 2 ∷ 2 ∷ []) (refused 11 0)
     ∷ case 2 0 (0 ∷ 1 ∷ []) (0 ∷ 0 ∷ []) (2 ∷ [])
-      (7 ∷ 7 ∷ 7 ∷ 7 ∷ 3 ∷ 2 ∷ 1 ∷ 1 ∷ 2 ∷ 2 ∷ []) none
+    (7 ∷ 7 ∷ 7 ∷ 7 ∷ 3 ∷ 2 ∷ 1 ∷ 1 ∷ 2 ∷ 2 ∷ []) none
     -- 11 before 12
     ∷ case 2 1 [] [] []
-      (5 ∷ 5 ∷ 5 ∷ 5 ∷ 4 ∷ 3 ∷ 0 ∷ 0 ∷ 0 ∷ 0 ∷ []) (refused 11 0)
+    (5 ∷ 5 ∷ 5 ∷ 5 ∷ 4 ∷ 3 ∷ 0 ∷ 0 ∷ 0 ∷ 0 ∷ []) (refused 11 0)
     -- 12, before 14
     ∷ case 1 1 [] [] []
-      (4 ∷ 4 ∷ 4 ∷ 4 ∷ 3 ∷ 2 ∷ 0 ∷ 0 ∷ 0 ∷ 0 ∷ []) (refused 12 0)
+    (4 ∷ 4 ∷ 4 ∷ 4 ∷ 3 ∷ 2 ∷ 0 ∷ 0 ∷ 0 ∷ 0 ∷ []) (refused 12 0)
     ∷ case 1 1 [] (0 ∷ []) []
-      (4 ∷ 4 ∷ 4 ∷ 4 ∷ 3 ∷ 2 ∷ 0 ∷ 0 ∷ 0 ∷ 0 ∷ []) (refused 12 0)
+    (4 ∷ 4 ∷ 4 ∷ 4 ∷ 3 ∷ 2 ∷ 0 ∷ 0 ∷ 0 ∷ 0 ∷ []) (refused 12 0)
     -- 13
     ∷ case 1 1 (0 ∷ 1 ∷ []) (0 ∷ 1 ∷ []) (0 ∷ 0 ∷ 0 ∷ 2 ∷ [])
-      (10 ∷ 10 ∷ 10 ∷ 10 ∷ 3 ∷ 2 ∷ 4 ∷ 4 ∷ 2 ∷ 2 ∷ []) (refused 13 0)
+    (10 ∷ 10 ∷ 10 ∷ 10 ∷ 3 ∷ 2 ∷ 4 ∷ 4 ∷ 2 ∷ 2 ∷ []) (refused 13 0)
     ∷ case 1 1 (0 ∷ 1 ∷ []) (0 ∷ 1 ∷ []) (0 ∷ 0 ∷ 2 ∷ [])
-      (9 ∷ 9 ∷ 9 ∷ 9 ∷ 3 ∷ 2 ∷ 3 ∷ 3 ∷ 2 ∷ 2 ∷ []) none
+    (9 ∷ 9 ∷ 9 ∷ 9 ∷ 3 ∷ 2 ∷ 3 ∷ 3 ∷ 2 ∷ 2 ∷ []) none
     -- 13 before 14
     ∷ case 1 1 (0 ∷ 1 ∷ []) (0 ∷ []) (0 ∷ 0 ∷ 0 ∷ 2 ∷ [])
-      (10 ∷ 10 ∷ 10 ∷ 10 ∷ 3 ∷ 2 ∷ 4 ∷ 4 ∷ 2 ∷ 2 ∷ []) (refused 13 0)
+    (10 ∷ 10 ∷ 10 ∷ 10 ∷ 3 ∷ 2 ∷ 4 ∷ 4 ∷ 2 ∷ 2 ∷ []) (refused 13 0)
     -- 14
     ∷ case 1 1 (0 ∷ 1 ∷ []) (0 ∷ []) (2 ∷ [])
-      (7 ∷ 7 ∷ 7 ∷ 7 ∷ 3 ∷ 2 ∷ 1 ∷ 1 ∷ 2 ∷ 2 ∷ []) (refused 14 0)
+    (7 ∷ 7 ∷ 7 ∷ 7 ∷ 3 ∷ 2 ∷ 1 ∷ 1 ∷ 2 ∷ 2 ∷ []) (refused 14 0)
     ∷ case 1 1 (0 ∷ 1 ∷ []) (0 ∷ 1 ∷ 0 ∷ []) (2 ∷ [])
-      (7 ∷ 7 ∷ 7 ∷ 7 ∷ 3 ∷ 2 ∷ 1 ∷ 1 ∷ 2 ∷ 2 ∷ []) (refused 14 0)
+    (7 ∷ 7 ∷ 7 ∷ 7 ∷ 3 ∷ 2 ∷ 1 ∷ 1 ∷ 2 ∷ 2 ∷ []) (refused 14 0)
     -- 14 before 15
     ∷ case 1 1 (0 ∷ 1 ∷ 0 ∷ 1 ∷ []) (0 ∷ 0 ∷ 0 ∷ []) (2 ∷ 4 ∷ [])
-      (10 ∷ 10 ∷ 10 ∷ 10 ∷ 3 ∷ 2 ∷ 2 ∷ 2 ∷ 4 ∷ 4 ∷ []) (refused 14 0)
+    (10 ∷ 10 ∷ 10 ∷ 10 ∷ 3 ∷ 2 ∷ 2 ∷ 2 ∷ 4 ∷ 4 ∷ []) (refused 14 0)
     -- 15
     ∷ case 1 1 (0 ∷ 1 ∷ 0 ∷ 1 ∷ []) (0 ∷ 0 ∷ 0 ∷ 0 ∷ []) (2 ∷ 4 ∷ [])
-      (10 ∷ 10 ∷ 10 ∷ 10 ∷ 3 ∷ 2 ∷ 2 ∷ 2 ∷ 4 ∷ 4 ∷ []) (refused 15 0)
+    (10 ∷ 10 ∷ 10 ∷ 10 ∷ 3 ∷ 2 ∷ 2 ∷ 2 ∷ 4 ∷ 4 ∷ []) (refused 15 0)
     ∷ case 1 1 (0 ∷ 1 ∷ 0 ∷ []) (0 ∷ 0 ∷ 0 ∷ []) (2 ∷ 3 ∷ [])
-      (9 ∷ 9 ∷ 9 ∷ 9 ∷ 3 ∷ 2 ∷ 2 ∷ 2 ∷ 3 ∷ 3 ∷ []) none
+    (9 ∷ 9 ∷ 9 ∷ 9 ∷ 3 ∷ 2 ∷ 2 ∷ 2 ∷ 3 ∷ 3 ∷ []) none
     -- 15 before 16
     ∷ case 1 1 (0 ∷ 1 ∷ 0 ∷ 1 ∷ []) (0 ∷ 0 ∷ 0 ∷ 0 ∷ []) (2 ∷ 3 ∷ [])
-      (10 ∷ 10 ∷ 10 ∷ 10 ∷ 3 ∷ 2 ∷ 2 ∷ 2 ∷ 4 ∷ 4 ∷ []) (refused 15 0)
+    (10 ∷ 10 ∷ 10 ∷ 10 ∷ 3 ∷ 2 ∷ 2 ∷ 2 ∷ 4 ∷ 4 ∷ []) (refused 15 0)
     -- 16: below the one before, above E, the last that isn't E; the first such option
     ∷ case 1 1 (0 ∷ 1 ∷ []) (0 ∷ 1 ∷ []) (2 ∷ 1 ∷ [])
-      (8 ∷ 8 ∷ 8 ∷ 8 ∷ 3 ∷ 2 ∷ 2 ∷ 2 ∷ 2 ∷ 2 ∷ []) (refused 16 1)
+    (8 ∷ 8 ∷ 8 ∷ 8 ∷ 3 ∷ 2 ∷ 2 ∷ 2 ∷ 2 ∷ 2 ∷ []) (refused 16 1)
     ∷ case 1 1 (0 ∷ 1 ∷ []) (0 ∷ 1 ∷ []) (3 ∷ [])
-      (7 ∷ 7 ∷ 7 ∷ 7 ∷ 3 ∷ 2 ∷ 1 ∷ 1 ∷ 2 ∷ 2 ∷ []) (refused 16 0)
+    (7 ∷ 7 ∷ 7 ∷ 7 ∷ 3 ∷ 2 ∷ 1 ∷ 1 ∷ 2 ∷ 2 ∷ []) (refused 16 0)
     ∷ case 1 1 (0 ∷ 1 ∷ []) (0 ∷ 1 ∷ []) (1 ∷ [])
-      (7 ∷ 7 ∷ 7 ∷ 7 ∷ 3 ∷ 2 ∷ 1 ∷ 1 ∷ 2 ∷ 2 ∷ []) (refused 16 0)
+    (7 ∷ 7 ∷ 7 ∷ 7 ∷ 3 ∷ 2 ∷ 1 ∷ 1 ∷ 2 ∷ 2 ∷ []) (refused 16 0)
     ∷ case 1 1 (0 ∷ []) (0 ∷ []) (9 ∷ 0 ∷ [])
-      (7 ∷ 7 ∷ 7 ∷ 7 ∷ 3 ∷ 2 ∷ 2 ∷ 2 ∷ 1 ∷ 1 ∷ []) (refused 16 0)
+    (7 ∷ 7 ∷ 7 ∷ 7 ∷ 3 ∷ 2 ∷ 2 ∷ 2 ∷ 1 ∷ 1 ∷ []) (refused 16 0)
     ∷ case 1 1 (0 ∷ []) (0 ∷ []) (0 ∷ 5 ∷ 0 ∷ [])
-      (8 ∷ 8 ∷ 8 ∷ 8 ∷ 3 ∷ 2 ∷ 3 ∷ 3 ∷ 1 ∷ 1 ∷ []) (refused 16 1)
+    (8 ∷ 8 ∷ 8 ∷ 8 ∷ 3 ∷ 2 ∷ 3 ∷ 3 ∷ 1 ∷ 1 ∷ []) (refused 16 1)
     ∷ case 1 1 (0 ∷ []) (0 ∷ []) (0 ∷ 0 ∷ 0 ∷ [])
-      (8 ∷ 8 ∷ 8 ∷ 8 ∷ 3 ∷ 2 ∷ 3 ∷ 3 ∷ 1 ∷ 1 ∷ []) (refused 16 2)
+    (8 ∷ 8 ∷ 8 ∷ 8 ∷ 3 ∷ 2 ∷ 3 ∷ 3 ∷ 1 ∷ 1 ∷ []) (refused 16 2)
     -- 16 before 17
     ∷ case 1 1 (0 ∷ 1 ∷ []) (0 ∷ 1 ∷ []) (1 ∷ [])
-      (6 ∷ 7 ∷ 7 ∷ 7 ∷ 3 ∷ 2 ∷ 1 ∷ 1 ∷ 2 ∷ 2 ∷ []) (refused 16 0)
+    (6 ∷ 7 ∷ 7 ∷ 7 ∷ 3 ∷ 2 ∷ 1 ∷ 1 ∷ 2 ∷ 2 ∷ []) (refused 16 0)
     -- skipped options count in the room that is asked for
     ∷ case 1 0 (0 ∷ []) (0 ∷ []) (1 ∷ 1 ∷ [])
-      (5 ∷ 6 ∷ 6 ∷ 6 ∷ 2 ∷ 1 ∷ 2 ∷ 2 ∷ 1 ∷ 1 ∷ []) (refused 17 0)
+    (5 ∷ 6 ∷ 6 ∷ 6 ∷ 2 ∷ 1 ∷ 2 ∷ 2 ∷ 1 ∷ 1 ∷ []) (refused 17 0)
     ∷ case 1 0 (0 ∷ []) (0 ∷ []) (1 ∷ 1 ∷ [])
-      (6 ∷ 6 ∷ 6 ∷ 6 ∷ 2 ∷ 1 ∷ 1 ∷ 2 ∷ 1 ∷ 1 ∷ []) (refused 18 0)
+    (6 ∷ 6 ∷ 6 ∷ 6 ∷ 2 ∷ 1 ∷ 1 ∷ 2 ∷ 1 ∷ 1 ∷ []) (refused 18 0)
     ∷ case 1 0 (0 ∷ []) (0 ∷ []) (1 ∷ 1 ∷ [])
-      (6 ∷ 6 ∷ 6 ∷ 6 ∷ 2 ∷ 1 ∷ 2 ∷ 2 ∷ 1 ∷ 1 ∷ []) none
+    (6 ∷ 6 ∷ 6 ∷ 6 ∷ 2 ∷ 1 ∷ 2 ∷ 2 ∷ 1 ∷ 1 ∷ []) none
     -- 17, before 18
     ∷ case 1 1 (0 ∷ 1 ∷ []) (0 ∷ 1 ∷ []) (2 ∷ [])
-      (6 ∷ 7 ∷ 7 ∷ 7 ∷ 3 ∷ 0 ∷ 0 ∷ 0 ∷ 0 ∷ 0 ∷ []) (refused 17 0)
+    (6 ∷ 7 ∷ 7 ∷ 7 ∷ 3 ∷ 0 ∷ 0 ∷ 0 ∷ 0 ∷ 0 ∷ []) (refused 17 0)
     ∷ case 1 1 (0 ∷ 1 ∷ []) (0 ∷ 1 ∷ []) (2 ∷ [])
-      (7 ∷ 6 ∷ 7 ∷ 7 ∷ 3 ∷ 2 ∷ 1 ∷ 1 ∷ 2 ∷ 2 ∷ []) (refused 17 0)
+    (7 ∷ 6 ∷ 7 ∷ 7 ∷ 3 ∷ 2 ∷ 1 ∷ 1 ∷ 2 ∷ 2 ∷ []) (refused 17 0)
     ∷ case 1 1 (0 ∷ 1 ∷ []) (0 ∷ 1 ∷ []) (2 ∷ [])
-      (7 ∷ 7 ∷ 6 ∷ 7 ∷ 3 ∷ 2 ∷ 1 ∷ 1 ∷ 2 ∷ 2 ∷ []) (refused 17 0)
+    (7 ∷ 7 ∷ 6 ∷ 7 ∷ 3 ∷ 2 ∷ 1 ∷ 1 ∷ 2 ∷ 2 ∷ []) (refused 17 0)
     ∷ case 1 1 (0 ∷ 1 ∷ []) (0 ∷ 1 ∷ []) (2 ∷ [])
-      (7 ∷ 7 ∷ 7 ∷ 6 ∷ 3 ∷ 2 ∷ 1 ∷ 1 ∷ 2 ∷ 2 ∷ []) (refused 17 0)
+    (7 ∷ 7 ∷ 7 ∷ 6 ∷ 3 ∷ 2 ∷ 1 ∷ 1 ∷ 2 ∷ 2 ∷ []) (refused 17 0)
     ∷ case 1 1 (0 ∷ 1 ∷ []) (0 ∷ 1 ∷ []) (2 ∷ [])
-      (7 ∷ 7 ∷ 7 ∷ 7 ∷ 2 ∷ 2 ∷ 1 ∷ 1 ∷ 2 ∷ 2 ∷ []) (refused 17 0)
+    (7 ∷ 7 ∷ 7 ∷ 7 ∷ 2 ∷ 2 ∷ 1 ∷ 1 ∷ 2 ∷ 2 ∷ []) (refused 17 0)
     -- 18
     ∷ case 1 1 (0 ∷ 1 ∷ []) (0 ∷ 1 ∷ []) (2 ∷ [])
-      (7 ∷ 7 ∷ 7 ∷ 7 ∷ 3 ∷ 1 ∷ 1 ∷ 1 ∷ 2 ∷ 2 ∷ []) (refused 18 0)
+    (7 ∷ 7 ∷ 7 ∷ 7 ∷ 3 ∷ 1 ∷ 1 ∷ 1 ∷ 2 ∷ 2 ∷ []) (refused 18 0)
     ∷ case 1 1 (0 ∷ 1 ∷ []) (0 ∷ 1 ∷ []) (2 ∷ [])
-      (7 ∷ 7 ∷ 7 ∷ 7 ∷ 3 ∷ 2 ∷ 0 ∷ 1 ∷ 2 ∷ 2 ∷ []) (refused 18 0)
+    (7 ∷ 7 ∷ 7 ∷ 7 ∷ 3 ∷ 2 ∷ 0 ∷ 1 ∷ 2 ∷ 2 ∷ []) (refused 18 0)
     ∷ case 1 1 (0 ∷ 1 ∷ []) (0 ∷ 1 ∷ []) (2 ∷ [])
-      (7 ∷ 7 ∷ 7 ∷ 7 ∷ 3 ∷ 2 ∷ 1 ∷ 0 ∷ 2 ∷ 2 ∷ []) (refused 18 0)
+    (7 ∷ 7 ∷ 7 ∷ 7 ∷ 3 ∷ 2 ∷ 1 ∷ 0 ∷ 2 ∷ 2 ∷ []) (refused 18 0)
     ∷ case 1 1 (0 ∷ 1 ∷ []) (0 ∷ 1 ∷ []) (2 ∷ [])
-      (7 ∷ 7 ∷ 7 ∷ 7 ∷ 3 ∷ 2 ∷ 1 ∷ 1 ∷ 1 ∷ 2 ∷ []) (refused 18 0)
+    (7 ∷ 7 ∷ 7 ∷ 7 ∷ 3 ∷ 2 ∷ 1 ∷ 1 ∷ 1 ∷ 2 ∷ []) (refused 18 0)
     ∷ case 1 1 (0 ∷ 1 ∷ []) (0 ∷ 1 ∷ []) (2 ∷ [])
-      (7 ∷ 7 ∷ 7 ∷ 7 ∷ 3 ∷ 2 ∷ 1 ∷ 1 ∷ 2 ∷ 1 ∷ []) (refused 18 0)
+    (7 ∷ 7 ∷ 7 ∷ 7 ∷ 3 ∷ 2 ∷ 1 ∷ 1 ∷ 2 ∷ 1 ∷ []) (refused 18 0)
     -- 18 before 19
     ∷ case 1 1 (0 ∷ 2 ∷ []) (0 ∷ 1 ∷ []) (2 ∷ [])
-      (7 ∷ 7 ∷ 7 ∷ 7 ∷ 3 ∷ 2 ∷ 0 ∷ 1 ∷ 2 ∷ 2 ∷ []) (refused 18 0)
+    (7 ∷ 7 ∷ 7 ∷ 7 ∷ 3 ∷ 2 ∷ 0 ∷ 1 ∷ 2 ∷ 2 ∷ []) (refused 18 0)
     -- 19, with the place in the whole list, also in an option that will be skipped
     ∷ case 1 1 (0 ∷ 2 ∷ []) (0 ∷ 1 ∷ []) (2 ∷ [])
-      (7 ∷ 7 ∷ 7 ∷ 7 ∷ 3 ∷ 2 ∷ 1 ∷ 1 ∷ 2 ∷ 2 ∷ []) (refused 19 1)
+    (7 ∷ 7 ∷ 7 ∷ 7 ∷ 3 ∷ 2 ∷ 1 ∷ 1 ∷ 2 ∷ 2 ∷ []) (refused 19 1)
     ∷ case 1 0 (0 ∷ 1 ∷ []) (0 ∷ 0 ∷ []) (1 ∷ 2 ∷ [])
-      (7 ∷ 7 ∷ 7 ∷ 7 ∷ 2 ∷ 1 ∷ 2 ∷ 2 ∷ 2 ∷ 2 ∷ []) (refused 19 1)
+    (7 ∷ 7 ∷ 7 ∷ 7 ∷ 2 ∷ 1 ∷ 2 ∷ 2 ∷ 2 ∷ 2 ∷ []) (refused 19 1)
     -- 20
     ∷ case 1 1 (0 ∷ 1 ∷ []) (0 ∷ 2 ∷ []) (2 ∷ [])
-      (7 ∷ 7 ∷ 7 ∷ 7 ∷ 3 ∷ 2 ∷ 1 ∷ 1 ∷ 2 ∷ 2 ∷ []) (refused 20 1)
+    (7 ∷ 7 ∷ 7 ∷ 7 ∷ 3 ∷ 2 ∷ 1 ∷ 1 ∷ 2 ∷ 2 ∷ []) (refused 20 1)
     -- 21
     ∷ case 1 1 (0 ∷ 1 ∷ []) (1 ∷ 1 ∷ []) (2 ∷ [])
-      (7 ∷ 7 ∷ 7 ∷ 7 ∷ 3 ∷ 2 ∷ 1 ∷ 1 ∷ 2 ∷ 2 ∷ []) (refused 21 0)
+    (7 ∷ 7 ∷ 7 ∷ 7 ∷ 3 ∷ 2 ∷ 1 ∷ 1 ∷ 2 ∷ 2 ∷ []) (refused 21 0)
     -- 22, whatever the colours; of an item that is in another option, no
     ∷ case 1 1 (1 ∷ 1 ∷ []) (0 ∷ 1 ∷ []) (2 ∷ [])
-      (7 ∷ 7 ∷ 7 ∷ 7 ∷ 3 ∷ 2 ∷ 1 ∷ 1 ∷ 2 ∷ 2 ∷ []) (refused 22 1)
+    (7 ∷ 7 ∷ 7 ∷ 7 ∷ 3 ∷ 2 ∷ 1 ∷ 1 ∷ 2 ∷ 2 ∷ []) (refused 22 1)
     ∷ case 1 1 (1 ∷ 1 ∷ []) (0 ∷ 1 ∷ []) (1 ∷ 2 ∷ [])
-      (8 ∷ 8 ∷ 8 ∷ 8 ∷ 3 ∷ 2 ∷ 2 ∷ 2 ∷ 2 ∷ 2 ∷ []) none
+    (8 ∷ 8 ∷ 8 ∷ 8 ∷ 3 ∷ 2 ∷ 2 ∷ 2 ∷ 2 ∷ 2 ∷ []) none
     -- entry by entry, and within an entry by number
     ∷ case 1 1 (0 ∷ 9 ∷ []) (1 ∷ 9 ∷ []) (2 ∷ [])
-      (7 ∷ 7 ∷ 7 ∷ 7 ∷ 3 ∷ 2 ∷ 1 ∷ 1 ∷ 2 ∷ 2 ∷ []) (refused 21 0)
+    (7 ∷ 7 ∷ 7 ∷ 7 ∷ 3 ∷ 2 ∷ 1 ∷ 1 ∷ 2 ∷ 2 ∷ []) (refused 21 0)
     ∷ case 1 1 (0 ∷ 9 ∷ []) (0 ∷ 9 ∷ []) (2 ∷ [])
-      (7 ∷ 7 ∷ 7 ∷ 7 ∷ 3 ∷ 2 ∷ 1 ∷ 1 ∷ 2 ∷ 2 ∷ []) (refused 19 1)
+    (7 ∷ 7 ∷ 7 ∷ 7 ∷ 3 ∷ 2 ∷ 1 ∷ 1 ∷ 2 ∷ 2 ∷ []) (refused 19 1)
     ∷ case 1 1 (0 ∷ 0 ∷ []) (0 ∷ 2 ∷ []) (2 ∷ [])
-      (7 ∷ 7 ∷ 7 ∷ 7 ∷ 3 ∷ 2 ∷ 1 ∷ 1 ∷ 2 ∷ 2 ∷ []) (refused 20 1)
+    (7 ∷ 7 ∷ 7 ∷ 7 ∷ 3 ∷ 2 ∷ 1 ∷ 1 ∷ 2 ∷ 2 ∷ []) (refused 20 1)
     ∷ case 1 1 (0 ∷ 0 ∷ []) (0 ∷ 1 ∷ []) (2 ∷ [])
-      (7 ∷ 7 ∷ 7 ∷ 7 ∷ 3 ∷ 2 ∷ 1 ∷ 1 ∷ 2 ∷ 2 ∷ []) (refused 21 1)
+    (7 ∷ 7 ∷ 7 ∷ 7 ∷ 3 ∷ 2 ∷ 1 ∷ 1 ∷ 2 ∷ 2 ∷ []) (refused 21 1)
     ∷ []
 
 -- A renumbering: the kept list, its count of primaries, the items, how many places the list for the outcome has, all of them 9; what must come
@@ -184,14 +184,14 @@ pub record Renumbering : Type 0 where
   pub crate : Renumbered
 
 abbrev pub renumbering : List ℕ → ℕ → List ℕ → ℕ → ℕ → ℕ → List ℕ → List ℕ → Renumbering
-renumbering kept primaries items size number place compact crate = record
-  { kept = kept
-  ; primaries = primaries
-  ; items = items
-  ; out = replicate size 9
-  ; compact = record { number = number; place = place; out = compact }
-  ; crate = record { number = number; place = place; out = crate }
-  }
+renumbering kept primaries items size number place compact crate = record {
+  kept = kept;
+  primaries = primaries;
+  items = items;
+  out = replicate size 9;
+  compact = record { number = number; place = place; out = compact };
+  crate = record { number = number; place = place; out = crate };
+}
 
 abbrev pub renumberings : List Renumbering
 renumberings =

@@ -116,100 +116,100 @@ abbrev pub samples : List Sample
 samples =
     -- 1
     sample 1 0 1 ((plain 0 ∷ []) ∷ [])
-      (saidReduced 1 0 1 1 1 true)
-      (lists (0 ∷ []) (1 ∷ []) (0 ∷ []) (0 ∷ []) (0 ∷ [])) (0 ∷ []) (0 ∷ [])
+    (saidReduced 1 0 1 1 1 true)
+    (lists (0 ∷ []) (1 ∷ []) (0 ∷ []) (0 ∷ []) (0 ∷ [])) (0 ∷ []) (0 ∷ [])
     -- 2, and with cap 1
     ∷ sample 2 0 2 ((plain 0 ∷ plain 1 ∷ []) ∷ (plain 1 ∷ []) ∷ [])
-      (saidReduced 1 0 1 1 2 true)
-      (lists (0 ∷ []) (1 ∷ []) (0 ∷ []) (0 ∷ []) (0 ∷ [])) (0 ∷ []) (0 ∷ [])
+    (saidReduced 1 0 1 1 2 true)
+    (lists (0 ∷ []) (1 ∷ []) (0 ∷ []) (0 ∷ []) (0 ∷ [])) (0 ∷ []) (0 ∷ [])
     ∷ sample 2 0 1 ((plain 0 ∷ plain 1 ∷ []) ∷ (plain 1 ∷ []) ∷ [])
-      (saidReduced 1 0 1 1 1 false)
-      (lists (0 ∷ []) (1 ∷ []) (0 ∷ []) (0 ∷ []) (0 ∷ [])) (0 ∷ []) (0 ∷ [])
+    (saidReduced 1 0 1 1 1 false)
+    (lists (0 ∷ []) (1 ∷ []) (0 ∷ []) (0 ∷ []) (0 ∷ [])) (0 ∷ []) (0 ∷ [])
     -- 3, and with cap 0
     ∷ sample 3 0 1 ((plain 0 ∷ plain 1 ∷ []) ∷ (plain 0 ∷ plain 2 ∷ []) ∷ (plain 1 ∷ plain 2 ∷ []) ∷ [])
-      (saidInfeasible 0 3 1)
-      (nothing) [] []
+    (saidInfeasible 0 3 1)
+    (nothing) [] []
     ∷ sample 3 0 0 ((plain 0 ∷ plain 1 ∷ []) ∷ (plain 0 ∷ plain 2 ∷ []) ∷ (plain 1 ∷ plain 2 ∷ []) ∷ [])
-      (saidReduced 3 0 3 6 0 false)
-      (lists (0 ∷ 1 ∷ 2 ∷ []) (2 ∷ 4 ∷ 6 ∷ []) (0 ∷ 1 ∷ 2 ∷ []) (0 ∷ 1 ∷ 0 ∷ 2 ∷ 1 ∷ 2 ∷ []) (0 ∷ 0 ∷ 0 ∷ 0 ∷ 0 ∷ 0 ∷ [])) (0 ∷ 1 ∷ 0 ∷ 2 ∷ 1 ∷ 2 ∷ []) (0 ∷ 1 ∷ 0 ∷ 2 ∷ 1 ∷ 2 ∷ [])
+    (saidReduced 3 0 3 6 0 false)
+    (lists (0 ∷ 1 ∷ 2 ∷ []) (2 ∷ 4 ∷ 6 ∷ []) (0 ∷ 1 ∷ 2 ∷ []) (0 ∷ 1 ∷ 0 ∷ 2 ∷ 1 ∷ 2 ∷ []) (0 ∷ 0 ∷ 0 ∷ 0 ∷ 0 ∷ 0 ∷ [])) (0 ∷ 1 ∷ 0 ∷ 2 ∷ 1 ∷ 2 ∷ []) (0 ∷ 1 ∷ 0 ∷ 2 ∷ 1 ∷ 2 ∷ [])
     -- 4
     ∷ sample 3 0 1 ((plain 0 ∷ plain 1 ∷ []) ∷ (plain 0 ∷ plain 2 ∷ []) ∷ [])
-      (saidInfeasible 1 2 1)
-      (nothing) [] []
+    (saidInfeasible 1 2 1)
+    (nothing) [] []
     -- 5
     ∷ sample 2 0 0 ((plain 0 ∷ []) ∷ [])
-      (saidInfeasible 1 1 0)
-      (nothing) [] []
+    (saidInfeasible 1 1 0)
+    (nothing) [] []
     -- 6
     ∷ sample 1 1 1 ((plain 1 ∷ []) ∷ (plain 0 ∷ []) ∷ [])
-      (saidReduced 1 0 1 1 1 true)
-      (lists (0 ∷ []) (1 ∷ []) (1 ∷ []) (0 ∷ []) (0 ∷ [])) (0 ∷ []) (0 ∷ [])
+    (saidReduced 1 0 1 1 1 true)
+    (lists (0 ∷ []) (1 ∷ []) (1 ∷ []) (0 ∷ []) (0 ∷ [])) (0 ∷ []) (0 ∷ [])
     -- 7
     ∷ sample 2 1 1 ((plain 2 ∷ plain 0 ∷ []) ∷ (plain 1 ∷ coloured 2 1 ∷ []) ∷ (plain 0 ∷ []) ∷ [])
-      (saidReduced 2 1 3 5 1 true)
-      (lists (0 ∷ 1 ∷ 2 ∷ []) (1 ∷ 3 ∷ 5 ∷ []) (2 ∷ 1 ∷ 0 ∷ []) (0 ∷ 1 ∷ 2 ∷ 2 ∷ 0 ∷ []) (0 ∷ 0 ∷ 1 ∷ 0 ∷ 0 ∷ [])) (0 ∷ 1 ∷ 2 ∷ 2 ∷ 0 ∷ []) (0 ∷ 1 ∷ 2 ∷ 2 ∷ 0 ∷ [])
+    (saidReduced 2 1 3 5 1 true)
+    (lists (0 ∷ 1 ∷ 2 ∷ []) (1 ∷ 3 ∷ 5 ∷ []) (2 ∷ 1 ∷ 0 ∷ []) (0 ∷ 1 ∷ 2 ∷ 2 ∷ 0 ∷ []) (0 ∷ 0 ∷ 1 ∷ 0 ∷ 0 ∷ [])) (0 ∷ 1 ∷ 2 ∷ 2 ∷ 0 ∷ []) (0 ∷ 1 ∷ 2 ∷ 2 ∷ 0 ∷ [])
     -- 8
     ∷ sample 3 2 2 ((plain 0 ∷ plain 1 ∷ coloured 4 1 ∷ []) ∷ (plain 2 ∷ []) ∷ [])
-      (saidReduced 2 1 2 3 2 true)
-      (lists (1 ∷ 2 ∷ 4 ∷ []) (2 ∷ 3 ∷ []) (0 ∷ 1 ∷ []) (1 ∷ 4 ∷ 2 ∷ []) (0 ∷ 1 ∷ 0 ∷ [])) (0 ∷ 2 ∷ 1 ∷ []) (1 ∷ 3 ∷ 2 ∷ [])
+    (saidReduced 2 1 2 3 2 true)
+    (lists (1 ∷ 2 ∷ 4 ∷ []) (2 ∷ 3 ∷ []) (0 ∷ 1 ∷ []) (1 ∷ 4 ∷ 2 ∷ []) (0 ∷ 1 ∷ 0 ∷ [])) (0 ∷ 2 ∷ 1 ∷ []) (1 ∷ 3 ∷ 2 ∷ [])
     -- the last of several p, cyclically from the entry after c, of the highest option
     ∷ sample 3 0 1 ((plain 0 ∷ plain 2 ∷ []) ∷ (plain 2 ∷ plain 0 ∷ plain 1 ∷ []) ∷ [])
-      (saidReduced 1 0 1 1 1 false)
-      (lists (1 ∷ []) (1 ∷ []) (1 ∷ []) (1 ∷ []) (0 ∷ [])) (0 ∷ []) (1 ∷ [])
+    (saidReduced 1 0 1 1 1 false)
+    (lists (1 ∷ []) (1 ∷ []) (1 ∷ []) (1 ∷ []) (0 ∷ [])) (0 ∷ []) (1 ∷ [])
     ∷ sample 3 0 1 ((plain 2 ∷ plain 0 ∷ []) ∷ (plain 0 ∷ plain 1 ∷ plain 2 ∷ []) ∷ [])
-      (saidReduced 1 0 1 1 1 false)
-      (lists (1 ∷ []) (1 ∷ []) (1 ∷ []) (1 ∷ []) (0 ∷ [])) (0 ∷ []) (1 ∷ [])
+    (saidReduced 1 0 1 1 1 false)
+    (lists (1 ∷ []) (1 ∷ []) (1 ∷ []) (1 ∷ []) (0 ∷ [])) (0 ∷ []) (1 ∷ [])
     ∷ sample 3 0 1 ((plain 2 ∷ plain 0 ∷ []) ∷ (plain 1 ∷ plain 0 ∷ plain 2 ∷ []) ∷ [])
-      (saidReduced 1 0 1 1 1 false)
-      (lists (2 ∷ []) (1 ∷ []) (1 ∷ []) (2 ∷ []) (0 ∷ [])) (0 ∷ []) (2 ∷ [])
+    (saidReduced 1 0 1 1 1 false)
+    (lists (2 ∷ []) (1 ∷ []) (1 ∷ []) (2 ∷ []) (0 ∷ [])) (0 ∷ []) (2 ∷ [])
     ∷ sample 3 0 1 ((plain 1 ∷ plain 2 ∷ []) ∷ (plain 1 ∷ plain 0 ∷ []) ∷ [])
-      (saidInfeasible 2 2 1)
-      (nothing) [] []
+    (saidInfeasible 2 2 1)
+    (nothing) [] []
     -- the first emptied in cyclic order from the entry after c
     ∷ sample 4 1 2 ((plain 2 ∷ plain 3 ∷ plain 1 ∷ []) ∷ (plain 1 ∷ plain 2 ∷ []) ∷ (plain 1 ∷ plain 0 ∷ []) ∷ [])
-      (saidInfeasible 3 2 1)
-      (nothing) [] []
+    (saidInfeasible 3 2 1)
+    (nothing) [] []
     -- an option with a coloured first item is not tested
     ∷ sample 2 1 1 ((coloured 2 1 ∷ plain 0 ∷ []) ∷ (plain 1 ∷ coloured 2 2 ∷ []) ∷ (plain 0 ∷ []) ∷ [])
-      (saidReduced 2 1 3 5 1 true)
-      (lists (0 ∷ 1 ∷ 2 ∷ []) (1 ∷ 3 ∷ 5 ∷ []) (2 ∷ 1 ∷ 0 ∷ []) (0 ∷ 1 ∷ 2 ∷ 2 ∷ 0 ∷ []) (0 ∷ 0 ∷ 2 ∷ 1 ∷ 0 ∷ [])) (0 ∷ 1 ∷ 2 ∷ 2 ∷ 0 ∷ []) (0 ∷ 1 ∷ 2 ∷ 2 ∷ 0 ∷ [])
+    (saidReduced 2 1 3 5 1 true)
+    (lists (0 ∷ 1 ∷ 2 ∷ []) (1 ∷ 3 ∷ 5 ∷ []) (2 ∷ 1 ∷ 0 ∷ []) (0 ∷ 1 ∷ 2 ∷ 2 ∷ 0 ∷ []) (0 ∷ 0 ∷ 2 ∷ 1 ∷ 0 ∷ [])) (0 ∷ 1 ∷ 2 ∷ 2 ∷ 0 ∷ []) (0 ∷ 1 ∷ 2 ∷ 2 ∷ 0 ∷ [])
     -- coloured holders of a redundant item are deleted; an item that is held coloured is not redundant
     ∷ sample 3 1 1 ((plain 3 ∷ plain 2 ∷ plain 1 ∷ []) ∷ (coloured 3 1 ∷ plain 0 ∷ []) ∷ [])
-      (saidInfeasible 0 2 1)
-      (nothing) [] []
+    (saidInfeasible 0 2 1)
+    (nothing) [] []
     ∷ sample 1 1 1 ((coloured 1 1 ∷ plain 0 ∷ []) ∷ [])
-      (saidReduced 1 1 1 2 1 true)
-      (lists (0 ∷ 1 ∷ []) (2 ∷ []) (0 ∷ []) (1 ∷ 0 ∷ []) (1 ∷ 0 ∷ [])) (1 ∷ 0 ∷ []) (1 ∷ 0 ∷ [])
+    (saidReduced 1 1 1 2 1 true)
+    (lists (0 ∷ 1 ∷ []) (2 ∷ []) (0 ∷ []) (1 ∷ 0 ∷ []) (1 ∷ 0 ∷ [])) (1 ∷ 0 ∷ []) (1 ∷ 0 ∷ [])
     -- colours 0 and 0 do not agree
     ∷ sample 2 1 2 ((plain 0 ∷ plain 2 ∷ []) ∷ (plain 1 ∷ plain 2 ∷ []) ∷ (plain 0 ∷ []) ∷ [])
-      (saidReduced 2 0 2 2 2 true)
-      (lists (0 ∷ 1 ∷ []) (1 ∷ 2 ∷ []) (2 ∷ 1 ∷ []) (0 ∷ 1 ∷ []) (0 ∷ 0 ∷ [])) (0 ∷ 1 ∷ []) (0 ∷ 1 ∷ [])
+    (saidReduced 2 0 2 2 2 true)
+    (lists (0 ∷ 1 ∷ []) (1 ∷ 2 ∷ []) (2 ∷ 1 ∷ []) (0 ∷ 1 ∷ []) (0 ∷ 0 ∷ [])) (0 ∷ 1 ∷ []) (0 ∷ 1 ∷ [])
     -- one equal colour above 0 is no clash
     ∷ sample 2 1 2 ((plain 0 ∷ coloured 2 1 ∷ []) ∷ (plain 1 ∷ coloured 2 1 ∷ []) ∷ (plain 0 ∷ []) ∷ [])
-      (saidReduced 2 1 3 5 1 true)
-      (lists (0 ∷ 1 ∷ 2 ∷ []) (2 ∷ 3 ∷ 5 ∷ []) (0 ∷ 2 ∷ 1 ∷ []) (0 ∷ 2 ∷ 0 ∷ 1 ∷ 2 ∷ []) (0 ∷ 1 ∷ 0 ∷ 0 ∷ 1 ∷ [])) (0 ∷ 2 ∷ 0 ∷ 1 ∷ 2 ∷ []) (0 ∷ 2 ∷ 0 ∷ 1 ∷ 2 ∷ [])
+    (saidReduced 2 1 3 5 1 true)
+    (lists (0 ∷ 1 ∷ 2 ∷ []) (2 ∷ 3 ∷ 5 ∷ []) (0 ∷ 2 ∷ 1 ∷ []) (0 ∷ 2 ∷ 0 ∷ 1 ∷ 2 ∷ []) (0 ∷ 1 ∷ 0 ∷ 0 ∷ 1 ∷ [])) (0 ∷ 2 ∷ 0 ∷ 1 ∷ 2 ∷ []) (0 ∷ 2 ∷ 0 ∷ 1 ∷ 2 ∷ [])
     -- a rival through another item than c, where it holds c coloured
     ∷ sample 2 1 1 ((plain 2 ∷ plain 0 ∷ []) ∷ (plain 0 ∷ plain 1 ∷ coloured 2 1 ∷ []) ∷ (plain 2 ∷ plain 1 ∷ []) ∷ [])
-      (saidReduced 2 1 1 3 1 false)
-      (lists (0 ∷ 1 ∷ 2 ∷ []) (3 ∷ []) (1 ∷ []) (0 ∷ 1 ∷ 2 ∷ []) (0 ∷ 0 ∷ 1 ∷ [])) (0 ∷ 1 ∷ 2 ∷ []) (0 ∷ 1 ∷ 2 ∷ [])
+    (saidReduced 2 1 1 3 1 false)
+    (lists (0 ∷ 1 ∷ 2 ∷ []) (3 ∷ []) (1 ∷ []) (0 ∷ 1 ∷ 2 ∷ []) (0 ∷ 0 ∷ 1 ∷ [])) (0 ∷ 1 ∷ 2 ∷ []) (0 ∷ 1 ∷ 2 ∷ [])
     -- the highest option that holds c need not hold a candidate
     ∷ sample 2 0 1 ((plain 0 ∷ plain 1 ∷ []) ∷ (plain 0 ∷ []) ∷ [])
-      (saidReduced 1 0 1 1 1 false)
-      (lists (1 ∷ []) (1 ∷ []) (0 ∷ []) (1 ∷ []) (0 ∷ [])) (0 ∷ []) (1 ∷ [])
+    (saidReduced 1 0 1 1 1 false)
+    (lists (1 ∷ []) (1 ∷ []) (0 ∷ []) (1 ∷ []) (0 ∷ [])) (0 ∷ []) (1 ∷ [])
     -- as many rounds as there are items
     ∷ sample 3 0 9 ((plain 1 ∷ plain 0 ∷ plain 2 ∷ []) ∷ (plain 1 ∷ plain 2 ∷ []) ∷ (plain 2 ∷ plain 0 ∷ []) ∷ [])
-      (saidReduced 1 0 1 1 3 true)
-      (lists (1 ∷ []) (1 ∷ []) (0 ∷ []) (1 ∷ []) (0 ∷ [])) (0 ∷ []) (1 ∷ [])
+    (saidReduced 1 0 1 1 3 true)
+    (lists (1 ∷ []) (1 ∷ []) (0 ∷ []) (1 ∷ []) (0 ∷ [])) (0 ∷ []) (1 ∷ [])
     -- a cap of 0 still puts the options in order, and drops skipped options and unused secondary items
     ∷ sample 2 0 0 ((plain 1 ∷ []) ∷ (plain 0 ∷ []) ∷ [])
-      (saidReduced 2 0 2 2 0 false)
-      (lists (0 ∷ 1 ∷ []) (1 ∷ 2 ∷ []) (1 ∷ 0 ∷ []) (0 ∷ 1 ∷ []) (0 ∷ 0 ∷ [])) (0 ∷ 1 ∷ []) (0 ∷ 1 ∷ [])
+    (saidReduced 2 0 2 2 0 false)
+    (lists (0 ∷ 1 ∷ []) (1 ∷ 2 ∷ []) (1 ∷ 0 ∷ []) (0 ∷ 1 ∷ []) (0 ∷ 0 ∷ [])) (0 ∷ 1 ∷ []) (0 ∷ 1 ∷ [])
     ∷ sample 1 1 0 ((plain 1 ∷ []) ∷ (plain 0 ∷ []) ∷ [])
-      (saidReduced 1 0 1 1 0 false)
-      (lists (0 ∷ []) (1 ∷ []) (1 ∷ []) (0 ∷ []) (0 ∷ [])) (0 ∷ []) (0 ∷ [])
+    (saidReduced 1 0 1 1 0 false)
+    (lists (0 ∷ []) (1 ∷ []) (1 ∷ []) (0 ∷ []) (0 ∷ [])) (0 ∷ []) (0 ∷ [])
     ∷ sample 1 1 0 ((plain 0 ∷ []) ∷ [])
-      (saidReduced 1 0 1 1 0 false)
-      (lists (0 ∷ []) (1 ∷ []) (0 ∷ []) (0 ∷ []) (0 ∷ [])) (0 ∷ []) (0 ∷ [])
+    (saidReduced 1 0 1 1 0 false)
+    (lists (0 ∷ []) (1 ∷ []) (0 ∷ []) (0 ∷ []) (0 ∷ [])) (0 ∷ []) (0 ∷ [])
     ∷ []
 
 -- Every sample comes out as it must.
