@@ -5,15 +5,15 @@ use native.Mathlib.Omega.{arith}
 use mathlib.Core.Path.{_≡_, refl, _∙_, ap, sym}
 use mathlib.Core.Bool.{Bool, true, false, false≢true, true≢false}
 use mathlib.Core.List.{List}
-use borrow.Author.Tests.{le-ltb, ltb-true, ltb-false}
-use lib.Dec.{T}
+use borrow.Author.Tests.{ne-eqb, le-ltb, ltb-true, ltb-false}
+use lib.Dec.{T, eqb}
 use lib.ListN.{getD}
 use lib.IntN.{ℤ, pos, negsuc, natAbs, _-ℤ_}
 use lib.Signed.{ltZ, nonNeg, mag}
 use mir.Syntax.{w32, w64}
 use mir.Val.{Fits, SFits, toZ, ofZ}
 use mir.Facts.{toZ-ofZ, toZ-pos}
-use Rattle.links.specs.Head.{itemOf, optionOf, head}
+use Rattle.links.specs.Head.{itemOf, optionOf, zeroHead, belowZero, head}
 
 -- a signed number, out of the bits that it is kept in
 abbrev pub kept : ℤ → ℤ
@@ -75,3 +75,12 @@ boundary-is k h = rw (toZ-pos w32 h, to-boundary) (kept-same (negsuc k) h)
 -- what is read of a head, where f reads it
 pub read-as : (f : ℤ → ℕ) (heads : List ℤ) (x : ℕ) {r : ℕ} → mag (head heads x) < 2 ^ 31 → r ≡ f (kept (head heads x)) → r ≡ f (head heads x)
 read-as f heads x h e = e ∙ ap f {y = head heads x} (kept-same (head heads x) h)
+
+-- tests against 0
+pub zero-is : (z : ℤ) → mag z < 2 ^ 31 → eqb (ofZ w32 z) 0 ≡ zeroHead z
+zero-is (pos i) h = refl
+zero-is (negsuc k) h = ne-eqb (2 ^ 32 - suc k) 0 (λ e. omega (arith, h, e))
+
+pub below-is : (z : ℤ) → mag z < 2 ^ 31 → ltZ (kept z) (pos 0) ≡ belowZero z
+below-is (pos i) h = rw (kept-same (pos i) h) (le-ltb i 0 (omega arith))
+below-is (negsuc k) h = rw (kept-same (negsuc k) h)

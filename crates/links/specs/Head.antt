@@ -1,6 +1,8 @@
 -- What a head says: the item of an entry, the length of a column, or the option before a boundary. Assumes nothing.
 use Prim.Native.Nat.{ℕ}
+use mathlib.Core.Bool.{Bool, true, false}
 use mathlib.Core.List.{List}
+use lib.Dec.{eqb}
 use lib.ListN.{getD}
 use lib.IntN.{ℤ, pos, negsuc}
 
@@ -13,6 +15,15 @@ itemOf (negsuc k) = 0
 abbrev pub optionOf : ℤ → ℕ
 optionOf (pos i) = 0
 optionOf (negsuc k) = k
+
+-- it is 0; it is below 0
+abbrev pub zeroHead : ℤ → Bool
+zeroHead (pos i) = eqb i 0
+zeroHead (negsuc k) = false
+
+abbrev pub belowZero : ℤ → Bool
+belowZero (pos i) = false
+belowZero (negsuc k) = true
 
 -- the head at a node
 abbrev pub head : List ℤ → ℕ → ℤ

@@ -3,7 +3,7 @@ ghost use mathlib.Core.Path.{_≡_};
 ghost use Prim.Native.Nat.{ℕ, _-_, _<_};
 ghost use lib.ListN.{length, getD, set};
 ghost use lib.IntN.{ℤ, pos, negsuc};
-ghost use Rattle.links.specs.Head.{itemOf, optionOf, head};
+ghost use Rattle.links.specs.Head.{itemOf, optionOf, zeroHead, belowZero, head};
 
 // The item of a head, or 0.
 pub fn item_of(h: i32) -> usize
@@ -49,6 +49,22 @@ pub fn option_at(heads: &[i32], x: usize) -> u32
     ensures { λ r. ⌜ r ≡ optionOf (head (now (heads .entry)) x) ⌝ }
 {
     option_of(heads[x])
+}
+
+// The head at node x is 0: a shortened entry, the first boundary, or the header of an empty column.
+pub fn is_zero(heads: &[i32], x: usize) -> bool
+    requires { ⌜ x < length (now heads) ⌝ }
+    ensures { λ r. ⌜ r ≡ zeroHead (head (now (heads .entry)) x) ⌝ }
+{
+    heads[x] == 0
+}
+
+// The head at node x is below 0: a boundary behind an option.
+pub fn is_boundary(heads: &[i32], x: usize) -> bool
+    requires { ⌜ x < length (now heads) ⌝ }
+    ensures { λ r. ⌜ r ≡ belowZero (head (now (heads .entry)) x) ⌝ }
+{
+    heads[x] < 0
 }
 
 // Writes an item, a column's length, or 0.
