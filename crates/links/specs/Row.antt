@@ -1,10 +1,10 @@
 -- Walking round an option. Assumes nothing.
 use Prim.Native.Nat.{ℕ, _+_, _-_}
-use mathlib.Core.Bool.{Bool, true, false, cond}
+use mathlib.Core.Bool.{Bool, true, false, not, cond}
 use mathlib.Core.List.{List, [], _∷_, _++_}
 use lib.Dec.{ltb}
 use lib.IntN.{ℤ}
-use Rattle.rules.specs.Lists.{keep, from}
+use Rattle.rules.specs.Lists.{any, keep, from}
 use Rattle.links.specs.Head.{itemOf, head}
 use Rattle.links.specs.Plan.{lo, hi}
 use Rattle.links.specs.Ground.{Ground}
@@ -27,3 +27,7 @@ walked g p nn = passed (g .heads) (lo (g .plan) p) (hi (g .plan) p) p nn
 
 unfoldable pub others : Ground → ℕ → List ℕ
 others g p = walked g p p
+
+-- r is the first live entry of its option: no full node stands before it
+abbrev pub firstLive : Ground → ℕ → Bool
+firstLive g r = not (any (full (g .heads)) (span (lo (g .plan) r) r))
