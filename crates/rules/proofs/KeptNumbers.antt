@@ -17,7 +17,7 @@ use Rattle.rules.proofs.Rising.{sorted-from, sorted-distinct}
 use Rattle.rules.proofs.NumberedFacts.{ItemsBelow, In-numbered, In-kept, kept-In}
 
 -- numbered from i, the numbers are i, i + 1, ..
-numbers-row : (i : ℕ) (s : State) → numbersOf (numbered i s) ≡ from i (length s)
+pub numbers-row : (i : ℕ) (s : State) → numbersOf (numbered i s) ≡ from i (length s)
 numbers-row i [] = refl
 numbers-row i (o ∷ s) = ap (λ (l : List ℕ). i ∷ l) (numbers-row (suc i) s)
 

@@ -46,3 +46,17 @@ pub mod Counting
 pub mod Held
 pub mod Counters
 pub mod AnyOrder
+pub mod EachFacts
+pub mod Joining
+pub mod Parts
+pub mod CountRow
+pub mod KeptSizes
+pub mod CompactFlat
+pub mod CompactAccepted
+pub mod CompactAgain
+pub mod Taken
+pub mod OneOutcome
+pub mod SecondRun
+pub mod RefusalPlaces
+pub mod Causes
+pub mod Bounds

@@ -14,3 +14,4 @@ pub mod Samples
 pub mod Cases
 pub mod Promises
 pub mod Sizing
+pub mod SecondRun
