@@ -1,2 +1,4 @@
 pub mod Leading
 pub mod Marking
+pub mod Chains
+pub mod Knowing

@@ -24,27 +24,27 @@ use Rattle.links.proofs.Spans.{span-In}
 use Rattle.condemning.specs.Marks.{HeldBy, Known, Marking}
 
 -- The walk is at q: the full entries behind r that it has passed are marked.
-pub record Passing (g : Ground) (r : ℕ) (marks : List ℕ) (q : ℕ) : Type 0 where
+pub record Passing (g : Ground) (on : ℕ → Bool) (r : ℕ) (marks : List ℕ) (q : ℕ) : Type 0 where
   pub above : r < q
   pub till : q ≤ hi (g .plan) r
-  pub known : Known g marks
+  pub known : Known g on marks
   pub own : (y : ℕ) → r < y → y < q → head (g .heads) y ≡ pos (g .plan .col y) → at marks (g .plan .col y) ≡ r
 
-module _ (g : Ground) (t : Tidy g) (r : ℕ) (e : EntryOf (g .plan) r) where
+module _ (g : Ground) (t : Tidy g) (on : ℕ → Bool) (r : ℕ) (e : EntryOf (g .plan) r) where
   W : Planned (g .plan)
   W = t .planned
 
   inside : (q : ℕ) → r < q → q < hi (g .plan) r → EntryOf (g .plan) q
   inside q a b = row-mate (g .plan) W r q e (omega (arith, e .from)) b
 
-  pub pass-begin : (marks : List ℕ) → Known g marks → Passing g r marks (r + 1)
+  pub pass-begin : (marks : List ℕ) → Known g on marks → Passing g on r marks (r + 1)
   pass-begin marks k = record { above = omega arith; till = omega (arith, e .till); known = k; own = λ y a b f. absurd (omega (arith, a, b)) }
 
   pub pass-in : (q : ℕ) → q ≤ hi (g .plan) r → q < g .plan .N
   pass-in q a = omega (arith, row-till (g .plan) W r e)
 
   -- before the boundary stands an entry, full or shortened
-  pub pass-entry : (marks : List ℕ) (q : ℕ) → Passing g r marks q → belowZero (head (g .heads) q) ≡ false → q < hi (g .plan) r
+  pub pass-entry : (marks : List ℕ) (q : ℕ) → Passing g on r marks q → belowZero (head (g .heads) q) ≡ false → q < hi (g .plan) r
   pass-entry marks q p b = ⊎-elim (λ s. absurd (true≢false (sym (ap belowZero (ap (head (g .heads)) s ∙ edge .number)) ∙ b))) (λ n. omega (arith, p .till, n)) (same? q (hi (g .plan) r))
     where
       edge : Edge g (g .plan .number r)
@@ -54,8 +54,8 @@ module _ (g : Ground) (t : Tidy g) (r : ℕ) (e : EntryOf (g .plan) r) where
   pass-item q a b n = ⊎-elim (λ f. f) (λ s. absurd (n (ap itemOf (s .none)))) (t .rows q (inside q a b))
 
   -- a mark for q's item
-  module _ (marks : List ℕ) (q : ℕ) (p : Passing g r marks q) (b : q < hi (g .plan) r) where
-    pub pass-full : head (g .heads) q ≡ pos (g .plan .col q) → Passing g r (set marks (g .plan .col q) r) (q + 1)
+  module _ (marks : List ℕ) (q : ℕ) (p : Passing g on r marks q) (b : q < hi (g .plan) r) where
+    pub pass-full : head (g .heads) q ≡ pos (g .plan .col q) → Passing g on r (set marks (g .plan .col q) r) (q + 1)
     pass-full f = record { above = omega (arith, p .above); till = omega arith; known = record { room = rw length-set (p .known .room); names = names }; own = own }
       where
         i : ℕ
@@ -64,7 +64,7 @@ module _ (g : Ground) (t : Tidy g) (r : ℕ) (e : EntryOf (g .plan) r) where
         i-in : i < length marks
         i-in = omega (arith, W .entry q (inside q (p .above) b) .below, p .known .room)
 
-        names : (y : ℕ) → EntryOf (g .plan) y → g .on y ≡ true → (at (set marks i r) (g .plan .col y) ≡ 0 → ⊥) → HeldBy g (at (set marks i r) (g .plan .col y)) y
+        names : (y : ℕ) → EntryOf (g .plan) y → on y ≡ true → (at (set marks i r) (g .plan .col y) ≡ 0 → ⊥) → HeldBy g (at (set marks i r) (g .plan .col y)) y
         names y m o n = ⊎-elim here other (same? (g .plan .col y) i)
           where
             here : g .plan .col y ≡ i → HeldBy g (at (set marks i r) (g .plan .col y)) y
@@ -85,13 +85,13 @@ module _ (g : Ground) (t : Tidy g) (r : ℕ) (e : EntryOf (g .plan) r) where
             below d = let n : y ≢ q = λ s. d (ap (g .plan .col) s) in omega arith
 
     -- a shortened entry marks 0, which is no column
-    pub pass-over : itemOf (head (g .heads) q) ≡ 0 → Passing g r (set marks 0 r) (q + 1)
+    pub pass-over : itemOf (head (g .heads) q) ≡ 0 → Passing g on r (set marks 0 r) (q + 1)
     pass-over z = record { above = omega (arith, p .above); till = omega arith; known = record { room = rw length-set (p .known .room); names = names }; own = own }
       where
         stays : (y : ℕ) → EntryOf (g .plan) y → at (set marks 0 r) (g .plan .col y) ≡ at marks (g .plan .col y)
         stays y m = getD-set-other marks 0 (g .plan .col y) r 0 (λ s. omega (arith, W .entry y m .above, s))
 
-        names : (y : ℕ) → EntryOf (g .plan) y → g .on y ≡ true → (at (set marks 0 r) (g .plan .col y) ≡ 0 → ⊥) → HeldBy g (at (set marks 0 r) (g .plan .col y)) y
+        names : (y : ℕ) → EntryOf (g .plan) y → on y ≡ true → (at (set marks 0 r) (g .plan .col y) ≡ 0 → ⊥) → HeldBy g (at (set marks 0 r) (g .plan .col y)) y
         names y m o n = subst (λ (x : ℕ). HeldBy g x y) (sym (stays y m)) (p .known .names y m o (λ u. n (stays y m ∙ u)))
 
         own : (y : ℕ) → r < y → y < q + 1 → head (g .heads) y ≡ pos (g .plan .col y) → at (set marks 0 r) (g .plan .col y) ≡ r
@@ -101,15 +101,15 @@ module _ (g : Ground) (t : Tidy g) (r : ℕ) (e : EntryOf (g .plan) r) where
             differs s = omega (arith, W .entry q (inside q (p .above) b) .above, sym z ∙ ap (λ (x : ℕ). itemOf (head (g .heads) x)) (sym s) ∙ ap itemOf h ∙ ap (g .plan .col) s)
 
     -- either way
-    pub pass-next : Passing g r (set marks (itemOf (head (g .heads) q)) r) (q + 1)
+    pub pass-next : Passing g on r (set marks (itemOf (head (g .heads) q)) r) (q + 1)
     pass-next = ⊎-elim (λ z. rw z (pass-over z)) (λ n. let f = pass-item q (p .above) b n in rw f (pass-full f)) (same? (itemOf (head (g .heads) q)) 0)
 
     pub pass-mark-in : itemOf (head (g .heads) q) < length marks
     pass-mark-in = ⊎-elim (λ z. rw z (omega (arith, p .known .room))) (λ n. rw (pass-item q (p .above) b n) (omega (arith, W .entry q (inside q (p .above) b) .below, p .known .room))) (same? (itemOf (head (g .heads) q)) 0)
 
   -- at the boundary all are marked, since no full entry stands before r
-  pub pass-done : firstLive g r ≡ true → (marks : List ℕ) (q : ℕ) → Passing g r marks q → belowZero (head (g .heads) q) ≡ true → Marked g r marks
-  pass-done first marks q p b = record { room = p .known .room; own = own; theirs = theirs }
+  pub pass-done : ((y : ℕ) → g .on y ≡ true → on y ≡ true) → firstLive g r ≡ true → (marks : List ℕ) (q : ℕ) → Passing g on r marks q → belowZero (head (g .heads) q) ≡ true → Marked g r marks
+  pass-done wider first marks q p b = record { room = p .known .room; own = own; theirs = theirs }
     where
       at-end : q ≡ hi (g .plan) r
       at-end = ⊎-elim (λ s. s) (λ n. absurd (not-entry (omega (arith, p .till, n)))) (same? q (hi (g .plan) r))
@@ -132,30 +132,30 @@ module _ (g : Ground) (t : Tidy g) (r : ℕ) (e : EntryOf (g .plan) r) where
       theirs : (y : ℕ) → EntryOf (g .plan) y → g .on y ≡ true → at marks (g .plan .col y) ≡ r
           → (x : ℕ) × EntryOf (g .plan) x × (g .plan .number x ≡ g .plan .number r) × (head (g .heads) x ≡ pos (g .plan .col x)) × (g .plan .col x ≡ g .plan .col y)
       theirs y m o s =
-          let h = p .known .names y m o (λ z. omega (arith, entry-from (g .plan) W r e, sym s ∙ z)) in
+          let h = p .known .names y m (wider y o) (λ z. omega (arith, entry-from (g .plan) W r e, sym s ∙ z)) in
           (h .mate, h .mate-entry, h .row ∙ ap (g .plan .number) s, h .full, h .item)
 
 -- The same, of lists that are the ground's.
-module _ (g : Ground) (r : ℕ) (heads : List ℤ) (marks₀ : List ℕ) (m : Marking g r heads marks₀) where
+module _ (g : Ground) (on : ℕ → Bool) (r : ℕ) (heads : List ℤ) (marks₀ : List ℕ) (m : Marking g on r heads marks₀) where
   pub mark-small : r < 1048575
   mark-small = omega (arith, entry-till (g .plan) (m .tidy .planned) r (m .entry), m .entry .till, row-till (g .plan) (m .tidy .planned) r (m .entry), m .tidy .planned .small)
 
-  pub mark-begin : Passing g r marks₀ (r + 1)
-  mark-begin = pass-begin g (m .tidy) r (m .entry) marks₀ (m .known)
+  pub mark-begin : Passing g on r marks₀ (r + 1)
+  mark-begin = pass-begin g (m .tidy) on r (m .entry) marks₀ (m .known)
 
-  module _ (marks : List ℕ) (q : ℕ) (p : Passing g r marks q) where
+  module _ (marks : List ℕ) (q : ℕ) (p : Passing g on r marks q) where
     pub mark-in : q < length heads
-    mark-in = rw (m .heads-are) (omega (arith, pass-in g (m .tidy) r (m .entry) q (p .till), m .tidy .heads-in))
+    mark-in = rw (m .heads-are) (omega (arith, pass-in g (m .tidy) on r (m .entry) q (p .till), m .tidy .heads-in))
 
     pub mark-far : q < 1048576
-    mark-far = omega (arith, pass-in g (m .tidy) r (m .entry) q (p .till), m .tidy .planned .small)
+    mark-far = omega (arith, pass-in g (m .tidy) on r (m .entry) q (p .till), m .tidy .planned .small)
 
     module _ (b : belowZero (head heads q) ≡ false) where
       pub mark-place : itemOf (head heads q) < length marks
-      mark-place = rw (m .heads-are) (pass-mark-in g (m .tidy) r (m .entry) marks q p (pass-entry g (m .tidy) r (m .entry) marks q p (rw (m .heads-are) at b)))
+      mark-place = rw (m .heads-are) (pass-mark-in g (m .tidy) on r (m .entry) marks q p (pass-entry g (m .tidy) on r (m .entry) marks q p (rw (m .heads-are) at b)))
 
-      pub mark-next : Passing g r (set marks (itemOf (head heads q)) r) (q + 1)
-      mark-next = rw (m .heads-are) (pass-next g (m .tidy) r (m .entry) marks q p (pass-entry g (m .tidy) r (m .entry) marks q p (rw (m .heads-are) at b)))
+      pub mark-next : Passing g on r (set marks (itemOf (head heads q)) r) (q + 1)
+      mark-next = rw (m .heads-are) (pass-next g (m .tidy) on r (m .entry) marks q p (pass-entry g (m .tidy) on r (m .entry) marks q p (rw (m .heads-are) at b)))
 
-    pub mark-done : belowZero (head heads q) ≡ true → Known g marks × Marked g r marks
-    mark-done b = (p .known, pass-done g (m .tidy) r (m .entry) (m .first) marks q p (rw (m .heads-are) at b))
+    pub mark-done : belowZero (head heads q) ≡ true → Known g on marks × Marked g r marks
+    mark-done b = (p .known, pass-done g (m .tidy) on r (m .entry) (m .wider) (m .first) marks q p (rw (m .heads-are) at b))

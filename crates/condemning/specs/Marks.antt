@@ -20,15 +20,16 @@ pub record HeldBy (g : Ground) (m y : ℕ) : Type 0 where
   pub full : head (g .heads) mate ≡ pos (g .plan .col mate)
   pub item : g .plan .col mate ≡ g .plan .col y
 
--- A mark of an item that is in some column is 0 or names an option that holds the item.
-pub record Known (g : Ground) (marks : List ℕ) : Type 0 where
+-- A mark of an item of which the mask has an entry is 0 or names an option that holds the item.
+pub record Known (g : Ground) (on : ℕ → Bool) (marks : List ℕ) : Type 0 where
   pub room : g .plan .n + 1 ≤ length marks
-  pub names : (y : ℕ) → EntryOf (g .plan) y → g .on y ≡ true → (at marks (g .plan .col y) ≡ 0 → ⊥) → HeldBy g (at marks (g .plan .col y)) y
+  pub names : (y : ℕ) → EntryOf (g .plan) y → on y ≡ true → (at marks (g .plan .col y) ≡ 0 → ⊥) → HeldBy g (at marks (g .plan .col y)) y
 
--- what is asked before r's items are marked
-pub record Marking (g : Ground) (r : ℕ) (heads : List ℤ) (marks : List ℕ) : Type 0 where
+-- what is asked before r's items are marked; the mask has at least what is in the columns
+pub record Marking (g : Ground) (on : ℕ → Bool) (r : ℕ) (heads : List ℤ) (marks : List ℕ) : Type 0 where
   pub tidy : Tidy g
   pub entry : EntryOf (g .plan) r
   pub first : firstLive g r ≡ true
+  pub wider : (y : ℕ) → g .on y ≡ true → on y ≡ true
   pub heads-are : heads ≡ g .heads
-  pub known : Known g marks
+  pub known : Known g on marks
