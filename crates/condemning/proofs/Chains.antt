@@ -3,71 +3,62 @@ use Prim.Native.Nat.{ℕ, zero, suc, _+_, _-_, _<_, _≤_}
 use native.Mathlib.Omega.{arith}
 use native.Mathlib.Numerals.{add-one}
 use mathlib.Core.Path.{_≡_, refl, _∙_, ap, sym, subst}
-use mathlib.Core.Logic.{_⊎_, inl, inr, ⊎-elim, _≢_}
-use mathlib.Core.Bool.{Bool, true, false, _&&_, cond, false≢true}
-use mathlib.Core.List.{List, [], _∷_, List·Memᴰ as In, List·Memᴰ·head as here, List·Memᴰ·tail as next, List·Memᴰ·not-nil as not-nil}
-use lib.Dec.{T, leb, eqb, leb→le, le→leb, eqb→eq}
-use lib.ListN.{length, set, length-set}
+use mathlib.Core.Logic.{⊎-elim, _≢_}
+use mathlib.Core.Bool.{Bool, true, false, cond}
+use mathlib.Core.List.{List, [], _∷_, _++_, reverse, reverse-append, append-nil, List·Memᴰ as In, List·Memᴰ·head as here, List·Memᴰ·tail as next, List·Memᴰ·not-nil as not-nil}
+use lib.ListN.{set, length-set}
 use lib.Seq.{getD-set-same, getD-set-other}
-use Rattle.rules.proofs.Tests.{T-true, T-and, and-T, eq→eqb}
+use Rattle.rules.specs.Lists.{keep, upTo}
 use Rattle.links.specs.Column.{at}
-use Rattle.links.specs.Plan.{Plan, start, lo, hi, EntryOf, Header, Planned}
-use Rattle.links.specs.Ground.{Ground, Tidy}
+use Rattle.links.specs.Plan.{Plan, lo, EntryOf, Planned}
 use Rattle.links.specs.Shown.{Tinted}
-use Rattle.links.specs.Taking.{inColumn}
 use Rattle.links.proofs.Stores.{same?, less?}
-use Rattle.links.proofs.Plans.{entry-from, entry-row, header-before, before-no-entry}
-use Rattle.condemning.specs.Doomed.{doomedAt, doomedTo, Chain}
+use Rattle.links.proofs.Plans.{entry-row, before-no-entry}
+use Rattle.links.proofs.Spans.{from-end, keep-append}
+use Rattle.condemning.specs.Search.{downTo, Chain}
 
--- An entry of a column
-
-pub column→ : (g : Ground) (c k : ℕ) → inColumn g c k ≡ true → (g .on k ≡ true) × (g .plan .col k ≡ c) × (start (g .plan) ≤ k)
-column→ g c k e =
-    let a = T-and (g .on k && eqb (g .plan .col k) c) (leb (start (g .plan)) k) (subst T (sym e) tt) in
-    let b = T-and (g .on k) (eqb (g .plan .col k) c) (a .0) in
-    (T-true (g .on k) (b .0), eqb→eq (g .plan .col k) c (b .1), leb→le (start (g .plan)) k (a .1))
-
-pub column← : (g : Ground) (c k : ℕ) → g .on k ≡ true → g .plan .col k ≡ c → start (g .plan) ≤ k → inColumn g c k ≡ true
-column← g c k o e h =
-    T-true (inColumn g c k) (and-T (g .on k && eqb (g .plan .col k) c) (leb (start (g .plan)) k) (and-T (g .on k) (eqb (g .plan .col k) c) (subst T (sym o) tt) (eq→eqb (g .plan .col k) c e)) (le→leb (start (g .plan)) k h))
-
-pub column-entry : (g : Ground) → Tidy g → (c k : ℕ) → inColumn g c k ≡ true → EntryOf (g .plan) k
-column-entry g t c k e =
-    let w = column→ g c k e in
-    ⊎-elim (λ h. absurd (omega (arith, header-before (g .plan) (t .planned) k h, w .2))) (λ m. m) (t .masked k (w .0))
+up-end : (k : ℕ) → upTo (suc k) ≡ upTo k ++ (k ∷ [])
+up-end k = let e : 0 + k ≡ k = omega arith in from-end 0 k ∙ ap (λ (z : ℕ). upTo k ++ (z ∷ [])) e
 
 -- Those found below a node
 
-module _ (g : Ground) (c np : ℕ) where
-  pub doomed-yes : (k : ℕ) → inColumn g c k ≡ true → doomedAt g c np k ≡ true → doomedTo g c np (k + 1) ≡ k ∷ doomedTo g c np k
-  doomed-yes k a b = ap (doomedTo g c np) (add-one k) ∙ ap (λ (t : Bool). cond t (k ∷ doomedTo g c np k) (doomedTo g c np k)) (ap (λ (t : Bool). t && doomedAt g c np k) a ∙ b)
+module _ (f : ℕ → Bool) where
+  pub down-yes : (k : ℕ) → f k ≡ true → downTo f (k + 1) ≡ k ∷ downTo f k
+  down-yes k e = ap (downTo f) (add-one k) ∙ ap (λ (t : Bool). cond t (k ∷ downTo f k) (downTo f k)) e
 
-  pub doomed-no : (k : ℕ) → inColumn g c k ≡ true → doomedAt g c np k ≡ false → doomedTo g c np (k + 1) ≡ doomedTo g c np k
-  doomed-no k a b = ap (doomedTo g c np) (add-one k) ∙ ap (λ (t : Bool). cond t (k ∷ doomedTo g c np k) (doomedTo g c np k)) (ap (λ (t : Bool). t && doomedAt g c np k) a ∙ b)
+  pub down-no : (k : ℕ) → f k ≡ false → downTo f (k + 1) ≡ downTo f k
+  down-no k e = ap (downTo f) (add-one k) ∙ ap (λ (t : Bool). cond t (k ∷ downTo f k) (downTo f k)) e
 
-  pub doomed-same : (a b : ℕ) → a ≤ b → ((k : ℕ) → a ≤ k → k < b → inColumn g c k ≡ false) → doomedTo g c np b ≡ doomedTo g c np a
-  doomed-same a zero h f = let e : 0 ≡ a = omega arith in ap (doomedTo g c np) e
-  doomed-same a (suc b) h f = ⊎-elim (λ (e : a ≡ suc b). ap (doomedTo g c np) (sym e)) (λ n. more n (doomed-same a b)) (same? a (suc b))
+  pub down-same : (a b : ℕ) → a ≤ b → ((k : ℕ) → a ≤ k → k < b → f k ≡ false) → downTo f b ≡ downTo f a
+  down-same a zero h n = let e : 0 ≡ a = omega arith in ap (downTo f) e
+  down-same a (suc b) h n = ⊎-elim (λ (e : a ≡ suc b). ap (downTo f) (sym e)) (λ d. more d (down-same a b)) (same? a (suc b))
     where
-      more : a ≢ suc b → (a ≤ b → ((k : ℕ) → a ≤ k → k < b → inColumn g c k ≡ false) → doomedTo g c np b ≡ doomedTo g c np a) → doomedTo g c np (suc b) ≡ doomedTo g c np a
-      more n r =
-          ap (λ (t : Bool). cond (t && doomedAt g c np b) (b ∷ doomedTo g c np b) (doomedTo g c np b)) (f b (omega arith) (omega arith))
-          ∙ r (omega arith) (λ k i j. f k i (omega arith))
+      more : a ≢ suc b → (a ≤ b → ((k : ℕ) → a ≤ k → k < b → f k ≡ false) → downTo f b ≡ downTo f a) → downTo f (suc b) ≡ downTo f a
+      more d r = ap (λ (t : Bool). cond t (b ∷ downTo f b) (downTo f b)) (n b (omega arith) (omega arith)) ∙ r (omega arith) (λ k i j. n k i (omega arith))
 
-  pub In-doomed : (k : ℕ) {y : ℕ} → In y (doomedTo g c np k) → (y < k) × (inColumn g c y ≡ true) × (doomedAt g c np y ≡ true)
-  In-doomed zero m = absurd (not-nil m)
-  In-doomed (suc k) {y} m = go (inColumn g c k && doomedAt g c np k) refl m (λ u. In-doomed k u)
+  pub In-down : (k : ℕ) {y : ℕ} → In y (downTo f k) → (y < k) × (f y ≡ true)
+  In-down zero m = absurd (not-nil m)
+  In-down (suc k) {y} m = go (f k) refl m (λ u. In-down k u)
     where
-      wider : (y < k) × (inColumn g c y ≡ true) × (doomedAt g c np y ≡ true) → (y < suc k) × (inColumn g c y ≡ true) × (doomedAt g c np y ≡ true)
-      wider w = (omega (arith, w .0), w .1, w .2)
+      wider : (y < k) × (f y ≡ true) → (y < suc k) × (f y ≡ true)
+      wider w = (omega (arith, w .0), w .1)
 
-      both : (inColumn g c k && doomedAt g c np k) ≡ true → (inColumn g c k ≡ true) × (doomedAt g c np k ≡ true)
-      both e = let w = T-and (inColumn g c k) (doomedAt g c np k) (subst T (sym e) tt) in (T-true (inColumn g c k) (w .0), T-true (doomedAt g c np k) (w .1))
-
-      go : (b : Bool) → (inColumn g c k && doomedAt g c np k) ≡ b → In y (cond b (k ∷ doomedTo g c np k) (doomedTo g c np k)) → (In y (doomedTo g c np k) → (y < k) × (inColumn g c y ≡ true) × (doomedAt g c np y ≡ true)) → (y < suc k) × (inColumn g c y ≡ true) × (doomedAt g c np y ≡ true)
-      go true e (here q) r = let w = both e in (omega arith, ap (inColumn g c) q ∙ w .0, ap (doomedAt g c np) q ∙ w .1)
+      go : (b : Bool) → f k ≡ b → In y (cond b (k ∷ downTo f k) (downTo f k)) → (In y (downTo f k) → (y < k) × (f y ≡ true)) → (y < suc k) × (f y ≡ true)
+      go true e (here q) r = (omega arith, ap f q ∙ e)
       go true e (next n) r = wider (r n)
       go false e n r = wider (r n)
+
+  -- the same as the rising list, turned round
+  pub down-reverse : (k : ℕ) → downTo f k ≡ reverse (keep f (upTo k))
+  down-reverse zero = refl
+  down-reverse (suc k) = go (f k) refl (down-reverse k)
+    where
+      last : (b : Bool) → f k ≡ b → keep f (upTo (suc k)) ≡ keep f (upTo k) ++ cond b (k ∷ []) []
+      last b e = ap (keep f) (up-end k) ∙ keep-append f (upTo k) (k ∷ []) ∙ ap (λ (t : Bool). keep f (upTo k) ++ cond t (k ∷ []) []) e
+
+      go : (b : Bool) → f k ≡ b → downTo f k ≡ reverse (keep f (upTo k)) → cond b (k ∷ downTo f k) (downTo f k) ≡ reverse (keep f (upTo (suc k)))
+      go true e r = ap (λ (l : List ℕ). k ∷ l) r ∙ sym (ap reverse (last true e) ∙ reverse-append (keep f (upTo k)) (k ∷ []))
+      go false e r = r ∙ sym (ap reverse (last false e ∙ append-nil (keep f (upTo k))))
 
 -- The chain
 

@@ -1,3 +1,3 @@
 pub mod Lead
 pub mod Marks
-pub mod Doomed
+pub mod Search

@@ -7,3 +7,4 @@ pub mod Grounds
 pub mod Spans
 pub mod Rows
 pub mod Gathering
+pub mod Descending

@@ -14,7 +14,7 @@ use Rattle.links.specs.Row.{span, full, passed}
 use Rattle.links.specs.Way.{way, wayBack}
 use Rattle.links.proofs.Stores.{less?}
 
-from-end : (i k : ℕ) → from i (suc k) ≡ from i k ++ ((i + k) ∷ [])
+pub from-end : (i k : ℕ) → from i (suc k) ≡ from i k ++ ((i + k) ∷ [])
 from-end i zero = let e : i ≡ i + 0 = omega arith in ap (λ (z : ℕ). z ∷ []) e
 from-end i (suc k) = let e : suc i + k ≡ i + suc k = omega arith in ap (λ (l : List ℕ). i ∷ l) (from-end (suc i) k ∙ ap (λ (z : ℕ). from (suc i) k ++ (z ∷ [])) e)
 
@@ -33,7 +33,7 @@ In-span a b m = let r = In-from a (b - a) m in (r .0, omega arith)
 pub span-In : (a b : ℕ) {y : ℕ} → a ≤ y → y < b → In y (span a b)
 span-In a b h k = from-In a (b - a) h (omega arith)
 
-keep-append : {A : Type 0} (f : A → Bool) (l m : List A) → keep f (l ++ m) ≡ keep f l ++ keep f m
+pub keep-append : {A : Type 0} (f : A → Bool) (l m : List A) → keep f (l ++ m) ≡ keep f l ++ keep f m
 keep-append f [] m = refl
 keep-append f (x ∷ l) m = go (f x) (keep-append f l m)
   where
