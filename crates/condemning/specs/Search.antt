@@ -10,7 +10,7 @@ use Rattle.links.specs.Plan.{Plan, start, lo, Header}
 use Rattle.links.specs.Ground.{Ground, Holds, taken}
 use Rattle.links.specs.Shown.{Ready, Tinted}
 use Rattle.links.specs.Taking.{inColumn, hides}
-use Rattle.showing.specs.Showing.{condemnedAt}
+use Rattle.showing.specs.Showing.{condemnedAt, Condemns}
 use Rattle.condemning.specs.Marks.{Known}
 
 -- the numbers below k that pass, the highest first
@@ -42,3 +42,20 @@ pub record Tried (g : Ground) (i np k z : ℕ) (tints marks : List ℕ) : Type 0
   pub tinted : Tinted (g .plan) tints
   pub known : Known g (g .on) marks
   pub chain : Chain (g .plan) tints z (downTo (condemnedAt np i g) k)
+
+-- The test of the option of node r: what is asked.
+pub record Trying (g : Ground) (i r first np z : ℕ) (heads : List ℤ) (up down tints marks : List ℕ) : Type 0 where
+  pub ready : Ready g
+  pub begins : first ≡ start (g .plan)
+  pub few : np ≤ g .plan .n
+  pub holds : Holds (taken g (hides g (i + 1))) heads up down
+  pub column : inColumn g (i + 1) r ≡ true
+  pub tried : Tried g i np r z tints marks
+
+-- The deletion of what was found, after the item is shown again: what is asked.
+pub record Sparing (g : Ground) (i np z : ℕ) (heads : List ℤ) (up down tints : List ℕ) : Type 0 where
+  pub ready : Ready g
+  pub tinted : Tinted (g .plan) tints
+  pub condemns : Condemns np i g (downTo (condemnedAt np i g) (g .plan .N))
+  pub chain : Chain (g .plan) tints z (downTo (condemnedAt np i g) (g .plan .N))
+  pub holds : Holds g heads up down

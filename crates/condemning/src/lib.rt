@@ -2,3 +2,4 @@
 // half of `reduce_options`). The functions of this crate have a `requires`; none is a public call.
 pub mod lead;
 pub mod mark;
+pub mod condemn;

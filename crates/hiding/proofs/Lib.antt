@@ -1,0 +1,14 @@
+pub mod Places
+pub mod Pushing
+pub mod Round
+pub mod Spending
+pub mod Rises
+pub mod Aways
+pub mod Ahead
+pub mod RoundBack
+pub mod Order
+pub mod Hides
+pub mod Steps
+pub mod Columns
+pub mod Descent
+pub mod DescentBack

@@ -1,0 +1,31 @@
+-- A place of a walk round an option: behind the headers, in no column where it has no item, and small. Assumes nothing.
+use Prim.Native.Nat.{ℕ, _+_, _<_}
+use native.Mathlib.Omega.{arith}
+use mathlib.Core.Path.{_≡_, refl, _∙_, ap, sym}
+use mathlib.Core.Logic.{⊎-elim}
+use mathlib.Core.Bool.{Bool, true, false}
+use Rattle.links.specs.Head.{itemOf, head}
+use Rattle.links.specs.Plan.{EntryOf, Header}
+use Rattle.links.specs.Ground.{Ground, Tidy}
+use Rattle.links.proofs.Plans.{header-before}
+use Rattle.links.proofs.Rows.{At, place-in, walk-begins}
+
+module _ {g : Ground} (t : Tidy g) {p : ℕ} (e : EntryOf (g .plan) p) where
+  module _ {nn : ℕ} (a : At g p nn) where
+    pub place-no-header : Header (g .plan) nn → ⊥
+    place-no-header h = omega (arith, header-before (g .plan) (t .planned) nn h, t .planned .from (g .plan .number p) (e .option), a .from)
+
+    pub empty-off : itemOf (head (g .heads) nn) ≡ 0 → g .on nn ≡ false
+    empty-off z = go (g .on nn) refl
+      where
+        go : (b : Bool) → g .on nn ≡ b → b ≡ false
+        go true o =
+            ⊎-elim (λ h. absurd (place-no-header h)) (λ m. absurd (omega (arith, t .planned .entry nn m .above, sym z ∙ ap itemOf (t .full nn m o)))) (t .masked nn o)
+        go false o = refl
+
+    pub place-small : nn + 1 < 1048576
+    place-small = omega (arith, place-in g t p e nn a, t .planned .small)
+
+  -- also of the node after p
+  pub after-small : p + 1 < 1048576
+  after-small = omega (arith, place-small (walk-begins g t p e))

@@ -1,0 +1,2 @@
+pub mod Hiding
+pub mod Away

@@ -1,0 +1,2 @@
+pub mod Deleting
+pub mod Removing
