@@ -11,9 +11,10 @@ use borrow.Author.Tests.{le-ltb}
 use lib.Dec.{T, ltb}
 use Rattle.rules.specs.Lists.{keep}
 use Rattle.rules.specs.Promises.{distinct}
-use Rattle.rules.proofs.ListFacts.{keep→}
-use Rattle.rules.proofs.Distinct.{distinct-append}
-use Rattle.rules.proofs.Rising.{sorted-from, sorted-keep, sorted-distinct}
+use Rattle.rules.proofs.Words.Lists.{keep→}
+use Rattle.rules.proofs.Words.Distinct.{distinct-append}
+use Rattle.rules.proofs.Words.Rising.{from-rises, rising-distinct}
+use Rattle.rules.proofs.Words.Order.{ordered-keep}
 use Rattle.links.specs.Plan.{Plan, start, lo, hi, EntryOf, Header, Planned}
 use Rattle.links.specs.Ground.{Ground, Tidy, Within, taken, Fresh}
 use Rattle.links.specs.Row.{span, full, passed, others}
@@ -33,7 +34,7 @@ others-distinct g p =
     (λ x m n. let a = In-span (p + 1) (hi (g .plan) p) (keep→ (full (g .heads)) (span (p + 1) (hi (g .plan) p)) m .0) in let b = In-span (lo (g .plan) p) p (keep→ (full (g .heads)) (span (lo (g .plan) p) p) n .0) in omega (arith, a .0, b .1)))
   where
     part : (a b : ℕ) → T (distinct (keep (full (g .heads)) (span a b)))
-    part a b = sorted-distinct (keep (full (g .heads)) (span a b)) (sorted-keep (full (g .heads)) (span a b) (sorted-from a (b - a)))
+    part a b = rising-distinct (keep (full (g .heads)) (span a b)) (ordered-keep _<_ (full (g .heads)) (span a b) (from-rises a (b - a)))
 
 module _ (chosen : ℕ → Bool) (g : Ground) where
   -- where none is chosen, nothing is gathered

@@ -11,7 +11,7 @@ use lib.Dec.{T, ltb}
 use lib.ListN.{length, set}
 use lib.Seq.{getD-set-other}
 use lib.IntN.{ℤ, pos}
-use Rattle.rules.proofs.Tests.{T-true, T-imp}
+use Rattle.rules.proofs.Words.Tests.{T-true, T-imp}
 use Rattle.links.specs.Head.{itemOf, head}
 use Rattle.links.specs.Column.{at}
 use Rattle.links.specs.Plan.{start, EntryOf, Header}
@@ -117,6 +117,7 @@ module _ (g : Ground) (c p first : ℕ) (heads₀ : List ℤ) (up₀ down₀ : L
           remove-stop n = record {
             answer = found ∙ sym (first-gather (offColumn g c) np (leaving g c p) g (r + 1) (g .plan .N) (omega (arith, entry-till (g .plan) (t .planned) r entry)) (λ u. n (found ∙ u)));
             ready = λ e. absurd (n e);
+            same = λ e. absurd (n e);
           }
 
           pub remove-next : z ≡ 0 → (next : ℕ) → next ≡ at down r → Place g c p np heads′ up′ down′ next
@@ -194,4 +195,5 @@ module _ (g : Ground) (c p first : ℕ) (heads₀ : List ℤ) (up₀ down₀ : L
               tidy = tidy;
               whole = record { headers = λ i h. →stays g c p i (R .whole .headers i h) (inl (header-before (g .plan) (t .planned) i h)); mates = mates };
             };
+            same = λ _ y e n. kept y e ∙ done .same y e (λ _. n);
           }

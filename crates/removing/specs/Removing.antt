@@ -8,6 +8,7 @@ use lib.Dec.{eqb}
 use lib.ListN.{set}
 use lib.IntN.{ℤ, pos}
 use Rattle.rules.specs.Lists.{any}
+use Rattle.links.specs.Head.{head}
 use Rattle.links.specs.Plan.{start, EntryOf, Header}
 use Rattle.links.specs.Ground.{Ground, Tidy, taken, Holds}
 use Rattle.links.specs.Row.{others}
@@ -56,3 +57,5 @@ removed g c p heads up down = record { plan = g .plan; on = maskWithout g c p; h
 pub record Removed (g : Ground) (c p np : ℕ) (heads : List ℤ) (up down : List ℕ) (z : ℕ) : Type 0 where
   pub answer : z ≡ firstOut (offColumn g c) np (leaves g c p)
   pub ready : z ≡ 0 → Ready (removed g c p heads up down)
+  -- entries of other columns keep their heads
+  pub same : z ≡ 0 → (y : ℕ) → EntryOf (g .plan) y → g .plan .col y ≢ c → head heads y ≡ head (g .heads) y

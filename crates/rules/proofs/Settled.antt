@@ -1,39 +1,11 @@
--- A round that removed nothing left the state as it was, and nothing in it is redundant or blocked. Assumes nothing.
-use Prim.Native.Nat.{ℕ, _<_}
-use mathlib.Core.Path.{_≡_, subst}
-use mathlib.Core.Bool.{false, not}
-use mathlib.Core.List.{List, List·Memᴰ as In}
-use lib.Dec.{T, T-not, not-T}
-use Rattle.rules.specs.Lists.{upTo}
-use Rattle.rules.specs.Problem.{Entry}
-use Rattle.rules.specs.State.{State, Step, went, isUncoloured, begins}
-use Rattle.rules.specs.Blocked.{blocked, condemned}
-use Rattle.rules.specs.Rounds.{round}
-use Rattle.rules.specs.Promises.{NothingLeft}
-use Rattle.rules.proofs.ListFacts.{none-any, upTo-In}
-use Rattle.rules.proofs.StateFacts.{uncoloured→, uncoloured-holds, begins-holds, live←}
-use Rattle.rules.proofs.Redundancy.{chosen-none}
-use Rattle.rules.proofs.Blocking.{condemned←}
-use Rattle.rules.proofs.ResultFacts.{kept→}
-use Rattle.rules.proofs.Flag.{AllQuiet, Tells, round-tells}
-
-module _ (np n : ℕ) (s : State) where
-  pub round-false : {s′ : State} → round np n s ≡ went s′ false → (s′ ≡ s) × AllQuiet np n s (upTo n)
-  round-false e = subst (λ (x : Step). Tells np n (upTo n) s false x) e (round-tells np n s)
-
-  pub quiet-left : ((o : List Entry) → In o s → (e : Entry) → In e o → e .item < n) → AllQuiet np n s (upTo n) → NothingLeft np n s
-  quiet-left below Q =
-      record
-      { no-redundant = λ c m p. let k = kept→ n s m in chosen-none np s c (Q c (upTo-In n (k .0)) (k .1) .0) p; no-blocked = λ c o m t. spared c o m t }
-    where
-      spared : (c : ℕ) (o : List Entry) → In o s → T (begins (isUncoloured c) o) → T (not (blocked np s c o))
-      spared c o m t =
-          let h = begins-holds c o t in
-          let w = uncoloured→ c o h in
-          let q = Q c (upTo-In n (subst (λ (i : ℕ). i < n) (w .2) (below o m (w .0) (w .1)))) (live← c s m (uncoloured-holds c o h)) in
-          not-T (blocked np s c o) (λ b. T-not (condemned np s c o) (none-any (condemned np s c) s (q .1) m) (condemned← np s c o t b))
-
--- Settled: the state is as it was before the round, and nothing is left to do in it.
-pub nothing-left : (np n : ℕ) (s s′ : State) → ((o : List Entry) → In o s → (e : Entry) → In e o → e .item < n) → round np n s ≡ went s′ false
-    → (s′ ≡ s) × NothingLeft np n s
-nothing-left np n s s′ below e = let w = round-false np n s e in (w .0, quiet-left np n s below (w .1))
+-- Settled: how the rounds end, within which number of them, and what settled means. Assumes nothing.
+pub mod LastRound
+pub mod Measure
+pub mod Flag
+pub mod InTime
+pub mod NothingLeft
+pub mod Image
+pub mod CompactImage
+pub mod Idle
+pub mod Repeat
+pub mod Means

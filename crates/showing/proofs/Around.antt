@@ -13,8 +13,9 @@ use Rattle.rules.specs.Lists.{keep, from}
 use Rattle.rules.specs.Problem.{Entry}
 use Rattle.rules.specs.State.{optionAt, entriesAfter, entriesBefore, itemsOf, around}
 use Rattle.rules.specs.Blocked.{secondToFirst}
-use Rattle.rules.proofs.Tests.{T-true, true-T, false-T, T-same, eqb-true, eqb-false}
-use Rattle.rules.proofs.ListFacts.{keep→, keep-cong, keep-none, none-any, In-map}
+use Rattle.rules.proofs.Words.Tests.{T-true, true-T, false-T, T-same}
+use borrow.Author.Tests.{eq-eqb, ne-eqb}
+use Rattle.rules.proofs.Words.Lists.{keep→, keep-cong, keep-none, none-any, In-map}
 use Rattle.links.specs.Head.{itemOf, head}
 use Rattle.links.specs.Plan.{lo, hi, EntryOf, Planned}
 use Rattle.links.specs.Ground.{Ground, Short}
@@ -47,12 +48,12 @@ span-split a y b h k =
 
 module _ (c : ℕ) (e : Entry) (b : List Entry) (own : e .item ≡ c) where
   pub after-at : (a : List Entry) → ((d : Entry) → In d a → d .item ≢ c) → entriesAfter c (a ++ (e ∷ b)) ≡ b
-  after-at [] h = rw (eqb-true (e .item) c own)
-  after-at (d ∷ a) h = rw (eqb-false (d .item) c (h d (here refl))) (after-at a (λ x m. h x (next m)))
+  after-at [] h = rw (eq-eqb (e .item) c own)
+  after-at (d ∷ a) h = rw (ne-eqb (d .item) c (h d (here refl))) (after-at a (λ x m. h x (next m)))
 
   pub before-at : (a : List Entry) → ((d : Entry) → In d a → d .item ≢ c) → entriesBefore c (a ++ (e ∷ b)) ≡ a
-  before-at [] h = rw (eqb-true (e .item) c own)
-  before-at (d ∷ a) h = rw (eqb-false (d .item) c (h d (here refl))) (ap (λ (l : List Entry). d ∷ l) (before-at a (λ x m. h x (next m))))
+  before-at [] h = rw (eq-eqb (e .item) c own)
+  before-at (d ∷ a) h = rw (ne-eqb (d .item) c (h d (here refl))) (ap (λ (l : List Entry). d ∷ l) (before-at a (λ x m. h x (next m))))
 
   pub around-at : (a : List Entry) → ((d : Entry) → In d a → d .item ≢ c) → around c (a ++ (e ∷ b)) ≡ itemsOf (b ++ a)
   unfolding around

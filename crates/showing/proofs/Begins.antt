@@ -9,9 +9,11 @@ use lib.Dec.{T, eqb, T-not, not-T}
 use Rattle.rules.specs.Lists.{keep}
 use Rattle.rules.specs.Problem.{Entry}
 use Rattle.rules.specs.State.{optionAt, is, isUncoloured, begins}
-use Rattle.rules.proofs.Tests.{T-true, T-false, true-T, false-T, T-and, eqb-true, eqb-false}
-use Rattle.rules.proofs.ListFacts.{any→, any←, any-none, keep←}
-use Rattle.rules.proofs.Rising.{Sorted, sorted-keep, sorted-from}
+use Rattle.rules.proofs.Words.Tests.{T-true, T-false, true-T, false-T, T-and}
+use borrow.Author.Tests.{eq-eqb, ne-eqb}
+use Rattle.rules.proofs.Words.Lists.{any→, any←, any-none, keep←}
+use Rattle.rules.proofs.Words.Order.{Ordered, ordered-keep}
+use Rattle.rules.proofs.Words.Rising.{from-rises}
 use Rattle.links.specs.Plan.{lo, Planned}
 use Rattle.links.specs.Ground.{Ground}
 use Rattle.links.specs.Row.{span, full}
@@ -57,9 +59,9 @@ module _ (g : Ground) (R : Ready g) where
   pub some-first : {k y : ℕ} → Linked (g .plan) (g .on) k y → (r : ℕ) × Linked (g .plan) (g .on) k r × (fullBefore g r ≡ false)
   some-first {k} {y} l =
       go (rowOf (g .plan) (g .on) k) (linked-row (g .plan) W (g .on) k y l) (λ z m. row-linked (g .plan) W (g .on) k (linked-below (g .plan) W (g .on) l) m)
-      (λ z j. linked-row (g .plan) W (g .on) k z j) (sorted-keep (g .on) (span (g .plan .first k) (g .plan .past k)) (sorted-from (g .plan .first k) (g .plan .past k - g .plan .first k)))
+      (λ z j. linked-row (g .plan) W (g .on) k z j) (ordered-keep _<_ (g .on) (span (g .plan .first k) (g .plan .past k)) (from-rises (g .plan .first k) (g .plan .past k - g .plan .first k)))
     where
-      go : (row : List ℕ) → In y row → ((z : ℕ) → In z row → Linked (g .plan) (g .on) k z) → ((z : ℕ) → Linked (g .plan) (g .on) k z → In z row) → Sorted row
+      go : (row : List ℕ) → In y row → ((z : ℕ) → In z row → Linked (g .plan) (g .on) k z) → ((z : ℕ) → Linked (g .plan) (g .on) k z → In z row) → Ordered _<_ row
           → (r : ℕ) × Linked (g .plan) (g .on) k r × (fullBefore g r ≡ false)
       go [] m of to S = absurd (not-nil m)
       go (r ∷ row) m of to S =
@@ -87,18 +89,18 @@ module _ (g : Ground) (R : Ready g) where
         go : (before : List ℕ) → (z : ℕ) × In z before → ((d : Entry) → In d (map (entryAt (g .plan)) before) → d .item ≢ c)
             → begins (is c) (map (entryAt (g .plan)) before ++ (entryAt (g .plan) y ∷ map (entryAt (g .plan)) (keep (g .on) (span (y + 1) (g .plan .past k))))) ≡ false
         go [] w h = absurd (not-nil (w .1))
-        go (a ∷ before) w h = eqb-false (entryAt (g .plan) a .item) c (h (entryAt (g .plan) a) (here refl))
+        go (a ∷ before) w h = ne-eqb (entryAt (g .plan) a .item) c (h (entryAt (g .plan) a) (here refl))
 
     pub begins-node : (c : ℕ) → g .plan .col y ≡ c + 1 → begins (is c) (optionAt (stateOf g) k) ≡ not (fullBefore g y)
     begins-node c e = go (fullBefore g y) refl
       where
         go : (b : Bool) → fullBefore g y ≡ b → begins (is c) (optionAt (stateOf g) k) ≡ not b
         go true h = begins-other c e h
-        go false h = begins-first h (is c) ∙ eqb-true (g .plan .col y - 1) c (col-item (g .plan) W y c e)
+        go false h = begins-first h (is c) ∙ eq-eqb (g .plan .col y - 1) c (col-item (g .plan) W y c e)
 
     pub begins-uncoloured : (c : ℕ) → g .plan .col y ≡ c + 1 → begins (isUncoloured c) (optionAt (stateOf g) k) ≡ (not (fullBefore g y) && eqb (g .plan .tint y) 0)
     begins-uncoloured c e = go (fullBefore g y) refl
       where
         go : (b : Bool) → fullBefore g y ≡ b → begins (isUncoloured c) (optionAt (stateOf g) k) ≡ (not b && eqb (g .plan .tint y) 0)
         go true h = T-false (begins (isUncoloured c) (optionAt (stateOf g) k)) (not-T (begins (isUncoloured c) (optionAt (stateOf g) k)) (λ t. T-not (begins (is c) (optionAt (stateOf g) k)) (false-T (begins-other c e h)) (begins-plain c (optionAt (stateOf g) k) t)))
-        go false h = begins-first h (isUncoloured c) ∙ ap (λ (b : Bool). b && eqb (g .plan .tint y) 0) (eqb-true (g .plan .col y - 1) c (col-item (g .plan) W y c e))
+        go false h = begins-first h (isUncoloured c) ∙ ap (λ (b : Bool). b && eqb (g .plan .tint y) 0) (eq-eqb (g .plan .col y - 1) c (col-item (g .plan) W y c e))

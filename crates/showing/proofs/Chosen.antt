@@ -8,10 +8,11 @@ use mathlib.Core.Bool.{Bool, true, false, _&&_, not}
 use mathlib.Core.List.{List, List·Memᴰ as In}
 use lib.Dec.{ltb, leb, eqb, ltb→lt, lt→ltb, leb→le, le→leb}
 use Rattle.rules.specs.Redundant.{chosen}
-use Rattle.rules.proofs.Tests.{T-same, eqb-false}
-use Rattle.rules.proofs.Preserve.{emptiedWith}
-use Rattle.rules.proofs.Held.{held}
-use Rattle.rules.proofs.Counters.{countedFirst, countedLast, hiding-counted, removing-counted}
+use Rattle.rules.proofs.Words.Tests.{T-same}
+use borrow.Author.Tests.{ne-eqb}
+use Rattle.rules.proofs.Steps.Redundancy.{emptiedWith}
+use Rattle.rules.proofs.Laws.Held.{held}
+use Rattle.rules.proofs.Laws.Counters.{countedFirst, countedLast, hiding-counted, removing-counted}
 use Rattle.links.specs.Plan.{EntryOf, Header, Planned}
 use Rattle.links.specs.Ground.{Ground}
 use Rattle.links.specs.Shown.{Ready}
@@ -46,7 +47,7 @@ module _ (g : Ground) (R : Ready g) where
     -- the primary items other than c
     primary-other : (y : ℕ) → EntryOf (g .plan) y → g .plan .col y ≢ c + 1 → (ltb (itemAt (g .plan) y) np && not (eqb (itemAt (g .plan) y) c)) ≡ leb (g .plan .col y) np
     primary-other y e n =
-        ap (λ (b : Bool). ltb (itemAt (g .plan) y) np && not b) (eqb-false (itemAt (g .plan) y) c (λ q. n (item-col (g .plan) W e c q)))
+        ap (λ (b : Bool). ltb (itemAt (g .plan) y) np && not b) (ne-eqb (itemAt (g .plan) y) c (λ q. n (item-col (g .plan) W e c q)))
         ∙ and-true (ltb (itemAt (g .plan) y) np)
         ∙ primary-column np y e
       where

@@ -11,9 +11,9 @@ use Rattle.rules.specs.Lists.{keep, upTo}
 use Rattle.rules.specs.State.{optionAt}
 use Rattle.rules.specs.Blocked.{condemned}
 use Rattle.rules.specs.Promises.{distinct}
-use Rattle.rules.proofs.ListFacts.{In-each, map-In}
-use Rattle.rules.proofs.Distinct.{distinct→, distinct-append}
-use Rattle.rules.proofs.Rising.{sorted-some, sorted-distinct}
+use Rattle.rules.proofs.Words.Lists.{In-each, map-In}
+use Rattle.rules.proofs.Words.Distinct.{distinct→, distinct-append}
+use Rattle.rules.proofs.Words.Rising.{some-rise, rising-distinct}
 use Rattle.links.specs.Head.{head}
 use Rattle.links.specs.Plan.{EntryOf, Planned}
 use Rattle.links.specs.Ground.{Ground, Within, taken, Fresh}
@@ -93,7 +93,7 @@ module _ (g : Ground) (R : Ready g) where
 pub condemned-apart : (np c : ℕ) (g : Ground) (rs : List ℕ) → Condemns np c g rs → T (distinct (map (g .plan .number) rs))
 condemned-apart np c g rs C =
     rw (C .numbers)
-    (distinct-reverse (keep doomed (upTo (g .plan .M))) (sorted-distinct (keep doomed (upTo (g .plan .M))) (sorted-some doomed (g .plan .M))))
+    (distinct-reverse (keep doomed (upTo (g .plan .M))) (rising-distinct (keep doomed (upTo (g .plan .M))) (some-rise doomed (g .plan .M))))
   where
     doomed : ℕ → Bool
     doomed k = condemned np (stateOf g) c (optionAt (stateOf g) k)

@@ -9,10 +9,10 @@ use Rattle.rules.specs.Lists.{each, upTo}
 use Rattle.rules.specs.Problem.{Entry}
 use Rattle.rules.specs.State.{optionAt}
 use Rattle.rules.specs.Blocked.{condemned, secondToFirst, leavingBlocked}
-use Rattle.rules.proofs.ListFacts.{In-each, each-In, each-cong}
-use Rattle.rules.proofs.Preserve.{emptiedBlocked}
-use Rattle.rules.proofs.Held.{held}
-use Rattle.rules.proofs.Counters.{countedFirst, deleting-counted}
+use Rattle.rules.proofs.Words.Lists.{In-each, each-In, each-cong}
+use Rattle.rules.proofs.Steps.Blocking.{emptiedBlocked}
+use Rattle.rules.proofs.Laws.Held.{held}
+use Rattle.rules.proofs.Laws.Counters.{countedFirst, deleting-counted}
 use Rattle.links.specs.Plan.{EntryOf}
 use Rattle.links.specs.Ground.{Ground}
 use Rattle.links.specs.Row.{others}

@@ -11,11 +11,12 @@ use lib.ListN.{length}
 use Rattle.rules.specs.Lists.{keep, each, from, upTo}
 use Rattle.rules.specs.Problem.{Entry}
 use Rattle.rules.specs.State.{optionAt, holds, inLive}
-use Rattle.rules.proofs.Tests.{T-dec, T-true, T-false, true-T, T-and, and-T, T-same, eq→eqb}
-use Rattle.rules.proofs.ListFacts.{each-cong, keep→, keep←, keep-none, each-In, In-each, In-from, In-upTo, upTo-In, count-keep, count-map}
-use Rattle.rules.proofs.Counting.{count-cong}
-use Rattle.rules.proofs.Rising.{Sorted, sorted-from, sorted-keep, sorted-same}
-use Rattle.rules.proofs.Held.{held, held-live, live-held}
+use Rattle.rules.proofs.Words.Tests.{T-dec, T-true, T-false, true-T, T-and, and-T, T-same, eq→eqb}
+use Rattle.rules.proofs.Words.Lists.{each-cong, keep→, keep←, keep-none, each-In, In-each, In-from, In-upTo, upTo-In}
+use Rattle.rules.proofs.Words.Counts.{count-keep, count-map, count-cong}
+use Rattle.rules.proofs.Words.Order.{Ordered, ordered-keep}
+use Rattle.rules.proofs.Words.Rising.{from-rises, rising-same}
+use Rattle.rules.proofs.Laws.Held.{held, held-live, live-held}
 use Rattle.links.specs.Head.{itemOf}
 use Rattle.links.specs.Plan.{Plan, start, EntryOf, Header, Planned}
 use Rattle.links.specs.Ground.{Ground, Tidy, tally}
@@ -40,11 +41,11 @@ module _ (P : Plan) (W : Planned P) where
   nodes-In k {y} e n = span-In (P .first k) (P .past k) (subst (λ (j : ℕ). P .first j ≤ y) n (e .from)) (subst (λ (j : ℕ). y < P .past j) n (e .till))
 
   module _ (t : ℕ → Bool) where
-    rows-rise : (i n : ℕ) → i + n ≤ P .M → Sorted (each (λ k. keep t (nodesIn P k)) (from i n))
+    rows-rise : (i n : ℕ) → i + n ≤ P .M → Ordered _<_ (each (λ k. keep t (nodesIn P k)) (from i n))
     rows-rise i zero h = tt
     rows-rise i (suc n) h =
         sorted-append (keep t (nodesIn P i)) (each (λ k. keep t (nodesIn P k)) (from (suc i) n))
-        (sorted-keep t (nodesIn P i) (sorted-from (P .first i) (P .past i - P .first i))) (rows-rise (suc i) n (omega arith)) before
+        (ordered-keep _<_ t (nodesIn P i) (from-rises (P .first i) (P .past i - P .first i))) (rows-rise (suc i) n (omega arith)) before
       where
         before : (x y : ℕ) → In x (keep t (nodesIn P i)) → In y (each (λ k. keep t (nodesIn P k)) (from (suc i) n)) → x < y
         before x y l m =
@@ -59,8 +60,8 @@ module _ (P : Plan) (W : Planned P) where
     module _ (entry : (y : ℕ) → t y ≡ true → EntryOf P y) where
       pub by-rows : (a : ℕ) → a ≤ start P → keep t (span a (P .N)) ≡ each (λ k. keep t (nodesIn P k)) (upTo (P .M))
       by-rows a h =
-          sorted-same (keep t (span a (P .N))) (each (λ k. keep t (nodesIn P k)) (upTo (P .M)))
-          (sorted-keep t (span a (P .N)) (sorted-from a (P .N - a))) (rows-rise 0 (P .M) (omega arith)) forth back
+          rising-same (keep t (span a (P .N))) (each (λ k. keep t (nodesIn P k)) (upTo (P .M)))
+          (ordered-keep _<_ t (span a (P .N)) (from-rises a (P .N - a))) (rows-rise 0 (P .M) (omega arith)) forth back
         where
           forth : (x : ℕ) → In x (keep t (span a (P .N))) → In x (each (λ k. keep t (nodesIn P k)) (upTo (P .M)))
           forth x m =
@@ -80,7 +81,7 @@ module _ (P : Plan) (W : Planned P) where
     module _ (i : ℕ) (column : (y : ℕ) → t y ≡ true → P .col y ≡ i) (k : ℕ) (h : k < P .M) where
       pub row-one : (y : ℕ) → EntryOf P y → P .number y ≡ k → t y ≡ true → keep t (nodesIn P k) ≡ y ∷ []
       row-one y e n o =
-          sorted-one (keep t (nodesIn P k)) (sorted-keep t (nodesIn P k) (sorted-from (P .first k) (P .past k - P .first k)))
+          sorted-one (keep t (nodesIn P k)) (ordered-keep _<_ t (nodesIn P k) (from-rises (P .first k) (P .past k - P .first k)))
           (keep← t (nodesIn P k) (nodes-In k e n) (rw o tt))
           (λ z m.
           let w = keep→ t (nodesIn P k) m in

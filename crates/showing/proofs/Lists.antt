@@ -10,10 +10,10 @@ use lib.Dec.{T}
 use lib.ListN.{length, getD, length-append}
 use Rattle.rules.specs.Lists.{keep, count, each}
 use Rattle.rules.specs.Promises.{distinct}
-use Rattle.rules.proofs.ListFacts.{In-map, In-reverse}
-use Rattle.rules.proofs.Counting.{each-append}
-use Rattle.rules.proofs.Distinct.{distinct→, distinct←, distinct-append}
-use Rattle.rules.proofs.Rising.{Sorted, sorted-same}
+use Rattle.rules.proofs.Words.Lists.{In-map, In-reverse, each-append}
+use Rattle.rules.proofs.Words.Distinct.{distinct→, distinct←, distinct-append}
+use Rattle.rules.proofs.Words.Order.{Ordered}
+use Rattle.rules.proofs.Words.Rising.{rising-same}
 
 -- keeping in two parts
 pub keep-append : {A : Type 0} (f : A → Bool) (l m : List A) → keep f (l ++ m) ≡ keep f l ++ keep f m
@@ -119,7 +119,7 @@ distinct-reverse (x ∷ l) d =
     only y (next n) m = absurd (not-nil n)
 
 -- one behind another, rising lists of rising numbers rise
-pub sorted-append : (l m : List ℕ) → Sorted l → Sorted m → ((x y : ℕ) → In x l → In y m → x < y) → Sorted (l ++ m)
+pub sorted-append : (l m : List ℕ) → Ordered _<_ l → Ordered _<_ m → ((x y : ℕ) → In x l → In y m → x < y) → Ordered _<_ (l ++ m)
 sorted-append [] m s t h = t
 sorted-append (x ∷ l) m s t h = (first, sorted-append l m (s .1) t (λ y z i j. h y z (next i) j))
   where
@@ -131,8 +131,8 @@ sorted-append (x ∷ l) m s t h = (first, sorted-append l m (s .1) t (λ y z i j
         of (inr j) = h x y (here refl) j
 
 -- the only one
-pub sorted-one : (l : List ℕ) → Sorted l → {x : ℕ} → In x l → ((y : ℕ) → In y l → y ≡ x) → l ≡ x ∷ []
-sorted-one l s {x} m h = sorted-same l (x ∷ []) s (λ y n. absurd (not-nil n), tt) (λ y n. here (h y n)) (λ y n. one y n)
+pub sorted-one : (l : List ℕ) → Ordered _<_ l → {x : ℕ} → In x l → ((y : ℕ) → In y l → y ≡ x) → l ≡ x ∷ []
+sorted-one l s {x} m h = rising-same l (x ∷ []) s (λ y n. absurd (not-nil n), tt) (λ y n. here (h y n)) (λ y n. one y n)
   where
     one : (y : ℕ) → In y (x ∷ []) → In y l
     one y (here e) = rw e m

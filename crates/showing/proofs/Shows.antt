@@ -13,10 +13,11 @@ use Rattle.rules.specs.Lists.{upTo}
 use Rattle.rules.specs.Problem.{Entry}
 use Rattle.rules.specs.State.{optionAt, holds, holdsUncoloured, inLive, itemsOf}
 use Rattle.rules.specs.Promises.{distinct}
-use Rattle.rules.proofs.Tests.{T-true, true-T}
-use Rattle.rules.proofs.ListFacts.{keep→, keep←, map-In, In-map, map-cong, In-upTo, getD-In, In-getD, getD-from, length-from}
-use Rattle.rules.proofs.Rising.{sorted-from, sorted-keep, sorted-distinct}
-use Rattle.rules.proofs.StateFacts.{holds→, holds←, uncoloured→, uncoloured←, live-at, at-live}
+use Rattle.rules.proofs.Words.Tests.{T-true, true-T}
+use Rattle.rules.proofs.Words.Lists.{keep→, keep←, map-In, In-map, map-cong, In-upTo, getD-In, In-getD, getD-from, length-from}
+use Rattle.rules.proofs.Words.Rising.{from-rises, rising-distinct}
+use Rattle.rules.proofs.Words.Order.{ordered-keep}
+use Rattle.rules.proofs.Steps.States.{holds→, holds←, uncoloured→, uncoloured←, live-at, at-live}
 use Rattle.links.specs.Plan.{Plan, start, EntryOf, Header, Planned}
 use Rattle.links.specs.Ground.{tally}
 use Rattle.links.specs.Row.{span}
@@ -137,7 +138,7 @@ module _ (P : Plan) (W : Planned P) where
     pub row-distinct : (k : ℕ) → k < P .M → T (distinct (itemsOf (shownRow P on k)))
     row-distinct k h =
         rw (map-map (λ (e : Entry). e .item) (entryAt P) (rowOf P on k))
-        (distinct-map (itemAt P) (rowOf P on k) (sorted-distinct (rowOf P on k) (sorted-keep on (span (P .first k) (P .past k)) (sorted-from (P .first k) (P .past k - P .first k))))
+        (distinct-map (itemAt P) (rowOf P on k) (rising-distinct (rowOf P on k) (ordered-keep _<_ on (span (P .first k) (P .past k)) (from-rises (P .first k) (P .past k - P .first k))))
         (λ y z m n e. let l = row-linked k h m in let j = row-linked k h n in one-node l j (same-col (l .entry) (j .entry) e)))
 
     pub shown-once : (o : List Entry) → In o (shown P on) → T (distinct (itemsOf o))

@@ -14,10 +14,11 @@ use Rattle.rules.specs.Problem.{Entry}
 use Rattle.rules.specs.State.{optionAt, holds}
 use Rattle.rules.specs.Redundant.{withoutItem, shortened, stateWithout}
 use Rattle.rules.specs.Blocked.{condemned, stateSpared}
-use Rattle.rules.proofs.Tests.{T-dec, T-true, T-false, eqb-false}
-use Rattle.rules.proofs.ListFacts.{any←, any-none, keep→, keep←, map-In, In-map, upTo-In, reverse-In, In-reverse}
-use Rattle.rules.proofs.Redundancy.{Fate, stays, loses, leaves, fate, shortened-same, shortened-short, shortened-deleted}
-use Rattle.rules.proofs.Blocking.{spare-same, spare-gone}
+use Rattle.rules.proofs.Words.Tests.{T-dec, T-true, T-false}
+use borrow.Author.Tests.{ne-eqb}
+use Rattle.rules.proofs.Words.Lists.{any←, any-none, keep→, keep←, map-In, In-map, upTo-In, reverse-In, In-reverse}
+use Rattle.rules.proofs.Steps.Redundancy.{Fate, stays, loses, leaves, fate, shortened-same, shortened-short, shortened-deleted}
+use Rattle.rules.proofs.Steps.Blocking.{spare-same, spare-gone}
 use Rattle.links.specs.Plan.{Plan, start, EntryOf, Planned}
 use Rattle.links.specs.Ground.{Ground, taken}
 use Rattle.links.specs.Shown.{shownRow, shown, Ready}
@@ -83,7 +84,7 @@ module _ (g : Ground) (R : Ready g) where
                 mask-entry k y e n
                 ∙ ap (λ (b : Bool). g .on y && (not (eqb (g .plan .col y) (c + 1)) && (not b || holds p o))) (T-false (holds c o) t)
                 ∙ and-stays (g .on y) (eqb (g .plan .col y) (c + 1)) (λ q.
-                eqb-false (g .plan .col y) (c + 1) (λ i. T-not (holds c o) t (node-holds (g .plan) W (g .on) k y c (record { entry = e; option = n; is-on = q }) i)))
+                ne-eqb (g .plan .col y) (c + 1) (λ i. T-not (holds c o) t (node-holds (g .plan) W (g .on) k y c (record { entry = e; option = n; is-on = q }) i)))
         go (loses t u) = row-without (g .plan) W (g .on) (maskWithout g (c + 1) (p + 1)) k h c short ∙ ap (withoutItem c) row ∙ sym (shortened-short c p o t u)
           where
             short : (y : ℕ) → EntryOf (g .plan) y → g .plan .number y ≡ k → maskWithout g (c + 1) (p + 1) y ≡ (g .on y && not (eqb (g .plan .col y) (c + 1)))

@@ -1,0 +1,10 @@
+pub mod Masks
+pub mod RingEnd
+pub mod Laying
+pub mod Layouts
+pub mod Parts
+pub mod Options
+pub mod Clearing
+pub mod Turns
+pub mod Premises
+pub mod Witness
