@@ -40,7 +40,11 @@ use Rattle.condemning.proofs.Knowing.{known-pass}
 use Rattle.condemning.proofs.Sparing.{down-front}
 use Rattle.preproc.specs.Standing.{Standing, Figured, Holding, Stepped}
 
-module _ {g : Ground} {i c first np : ℕ} {heads : List ℤ} {up down tints marks : List ℕ} (s : Standing g heads up down tints marks) (f : Figured (g .plan) first np) (e : c ≡ i + 1) (hd : Header (g .plan) c) where
+-- lists that are others' are held as well
+pub held-same : {h : Ground} {heads heads′ : List ℤ} {up up′ down down′ : List ℕ} → Holds h heads up down → heads′ ≡ heads → up′ ≡ up → down′ ≡ down → Holds h heads′ up′ down′
+held-same w a b d = record { heads-are = a ∙ w .heads-are; up-are = b ∙ w .up-are; down-are = d ∙ w .down-are }
+
+module _ {g : Ground} (i : ℕ) {c first np : ℕ} {heads : List ℤ} {up down tints marks : List ℕ} (s : Standing g heads up down tints marks) (f : Figured (g .plan) first np) (e : c ≡ i + 1) (hd : Header (g .plan) c) where
   R : Ready g
   R = s .ready
 
@@ -122,19 +126,19 @@ module _ {g : Ground} {i c first np : ℕ} {heads : List ℤ} {up down tints mar
 
         -- something was found exactly if the chain does not begin at 0
         found-some : (b : Bool) → (l ≢ 0 → b ≡ true) → (l ≡ 0 → b ≡ false) → ltb 0 (length (downTo (condemnedAt np i g) (g .plan .N))) ≡ b
-        found-some b yes no = ⊎-elim empty some (down-front (condemnedAt np i g) (g .plan .N))
+        found-some b got nil = ⊎-elim empty some (down-front (condemnedAt np i g) (g .plan .N))
           where
             empty : downTo (condemnedAt np i g) (g .plan .N) ≡ [] → ltb 0 (length (downTo (condemnedAt np i g) (g .plan .N))) ≡ b
-            empty x = ap (λ (y : List ℕ). ltb 0 (length y)) x ∙ sym (no (subst (Chain (g .plan) tints₂ l) x (t .chain)))
+            empty x = ap (λ (y : List ℕ). ltb 0 (length y)) x ∙ sym (nil (subst (Chain (g .plan) tints₂ l) x (t .chain)))
             some : (x : ℕ) × (x < g .plan .N) × (condemnedAt np i g x ≡ true) × (downTo (condemnedAt np i g) (g .plan .N) ≡ x ∷ downTo (condemnedAt np i g) x) → ltb 0 (length (downTo (condemnedAt np i g) (g .plan .N))) ≡ b
             some x =
                 let l-is = subst (Chain (g .plan) tints₂ l) (x .3) (t .chain) .0 in
                 let m = condemned→ g R np i (chosen-none g R np i quiet) (x .0) (x .2) .0 in
                 ap (λ (y : List ℕ). ltb 0 (length y)) (x .3)
                 ∙ lt-ltb 0 (suc (length (downTo (condemnedAt np i g) (x .0)))) (omega arith)
-                ∙ sym (yes (λ j. omega (arith, entry-from (g .plan) W (x .0) m, l-is, j)))
+                ∙ sym (got (λ j. omega (arith, entry-from (g .plan) W (x .0) m, l-is, j)))
 
-        module _ {heads₄ : List ℤ} {up₄ down₄ : List ℕ} {z : ℕ} (d : Deleted g np (deletes g (downTo (condemnedAt np i g) (g .plan .N))) heads₄ up₄ down₄ z) (b : Bool) (yes : l ≢ 0 → b ≡ true) (no : l ≡ 0 → b ≡ false) where
+        module _ {heads₄ : List ℤ} {up₄ down₄ : List ℕ} {z : ℕ} (d : Deleted g np (deletes g (downTo (condemnedAt np i g) (g .plan .N))) heads₄ up₄ down₄ z) (b : Bool) (got : l ≢ 0 → b ≡ true) (nil : l ≡ 0 → b ≡ false) where
           apart : T (distinct (map (g .plan .number) (downTo (condemnedAt np i g) (g .plan .N))))
           apart = condemned-apart np i g (downTo (condemnedAt np i g) (g .plan .N)) C
 
@@ -144,7 +148,7 @@ module _ {g : Ground} {i c first np : ℕ} {heads : List ℤ} {up down tints mar
           pub step-deleted : Stepped (g .plan) (itemStep np i (stateOf g)) z 3 b heads₄ up₄ down₄ tints₂ marks₂
           step-deleted = record
             { stops = λ m. deleting-empties g R np i quiet (downTo (condemnedAt np i g) (g .plan .N)) C (z - 1) (sym (d .answer) ∙ omega arith)
-            ; goes = λ x. (shown (g .plan) (taken g (deletes g (downTo (condemnedAt np i g) (g .plan .N))) .on), step-deletes g R np i quiet (downTo (condemnedAt np i g) (g .plan .N)) C (sym (d .answer) ∙ x) ∙ ap (went (shown (g .plan) (taken g (deletes g (downTo (condemnedAt np i g) (g .plan .N))) .on))) (found-some b yes no), record
+            ; goes = λ x. (shown (g .plan) (taken g (deletes g (downTo (condemnedAt np i g) (g .plan .N))) .on), step-deletes g R np i quiet (downTo (condemnedAt np i g) (g .plan .N)) C (sym (d .answer) ∙ x) ∙ ap (went (shown (g .plan) (taken g (deletes g (downTo (condemnedAt np i g) (g .plan .N))) .on))) (found-some b got nil), record
               { ground = after g (deletes g (downTo (condemnedAt np i g) (g .plan .N)))
               ; plan = refl
               ; shows = refl
