@@ -1,2 +1,4 @@
 pub mod Unrolling
 pub mod Stepping
+pub mod Rounding
+pub mod Lowest

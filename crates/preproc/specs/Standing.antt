@@ -41,3 +41,9 @@ pub record Stepped (P : Plan) (step : Step) (item cause : ℕ) (removed : Bool) 
 pub record Ended (P : Plan) (finding : Finding) (item cause rounds : ℕ) (settled : Bool) (heads : List ℤ) (up down tints marks : List ℕ) : Type 0 where
   pub stops : (item ≡ 0 → ⊥) → finding ≡ infeasible (item - 1) cause rounds
   pub goes : item ≡ 0 → (s : State) × (finding ≡ reduced s rounds settled) × Holding P s heads up down tints marks
+
+-- The heads are those of a ground that is ready: enough to see which items are in no option.
+pub record Looking (g : Ground) (np : ℕ) (heads : List ℤ) : Type 0 where
+  pub ready : Ready g
+  pub few : np ≤ g .plan .n
+  pub heads-are : heads ≡ g .heads

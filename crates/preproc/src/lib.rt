@@ -2,3 +2,4 @@
 // a public call.
 pub mod step;
 
+pub mod rounds;
