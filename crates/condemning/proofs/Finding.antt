@@ -34,10 +34,10 @@ module _ {g : Ground} {i c first np : ℕ} {heads : List ℤ} {up down tints₀ 
   find-column = omega (arith, header-before (g .plan) (s .ready .tidy .planned) c (s .header), s .ready .tidy .planned .room, room)
 
   pub find-begin : Found g i np 0 tints₀ marks₀ (at down c)
-  find-begin = rw (w .holds .down-are, s .column) (record
-    { stand = search-stand g (s .ready) i own np
-    ; tried = record { tinted = w .tinted; known = w .known; chain = subst (Chain (g .plan) tints₀ 0) (sym (first-none g (s .ready) i own np)) refl }
-    })
+  find-begin = rw (w .holds .down-are, s .column) (record {
+    stand = search-stand g (s .ready) i own np;
+    tried = record { tinted = w .tinted; known = w .known; chain = subst (Chain (g .plan) tints₀ 0) (sym (first-none g (s .ready) i own np)) refl };
+  })
 
   module _ {z r : ℕ} {tints marks : List ℕ} (p : Found g i np z tints marks r) where
     pub find-down : r < length down
@@ -52,20 +52,20 @@ module _ {g : Ground} {i c first np : ℕ} {heads : List ℤ} {up down tints₀ 
       behind = omega (arith, l, s .begins)
 
       pub find-trying : Trying g i r first np z heads up down tints marks
-      find-trying = record
-        { ready = s .ready
-        ; begins = s .begins
-        ; few = s .few
-        ; holds = w .holds
-        ; column = stand-column g (s .ready) i own np r (p .stand) behind
-        ; tried = subst (λ (k : ℕ). Tried g i np k z tints marks) (reach-at (g .plan) r behind) (p .tried)
-        }
+      find-trying = record {
+        ready = s .ready;
+        begins = s .begins;
+        few = s .few;
+        holds = w .holds;
+        column = stand-column g (s .ready) i own np r (p .stand) behind;
+        tried = subst (λ (k : ℕ). Tried g i np k z tints marks) (reach-at (g .plan) r behind) (p .tried);
+      }
 
       pub find-next : {z′ : ℕ} {tints′ marks′ : List ℕ} → Tried g i np (r + 1) z′ tints′ marks′ → Found g i np z′ tints′ marks′ (at down r)
-      find-next {z′} {tints′} t = rw (w .holds .down-are) (record
-        { stand = stand-next (hiding g i) tidy (i + 1) own r (p .stand)
-        ; tried = record { tinted = t .tinted; known = t .known; chain = subst (Chain (g .plan) tints′ z′) (sym (next-same g (s .ready) i own np r (p .stand))) (t .chain) }
-        })
+      find-next {z′} {tints′} t = rw (w .holds .down-are) (record {
+        stand = stand-next (hiding g i) tidy (i + 1) own r (p .stand);
+        tried = record { tinted = t .tinted; known = t .known; chain = subst (Chain (g .plan) tints′ z′) (sym (next-same g (s .ready) i own np r (p .stand))) (t .chain) };
+      })
 
       pub find-less : left (length heads) first (at down r) < left (length heads) first r
       find-less = rw (w .holds .down-are, s .begins) (step-less (hiding g i) tidy (i + 1) own r (p .stand) (length heads) (rw (w .holds .heads-are) (tidy .heads-in)) behind)

@@ -1,4 +1,3 @@
-pub mod Leading
 pub mod Marking
 pub mod Chains
 pub mod Knowing

@@ -27,7 +27,7 @@ use Rattle.links.proofs.Descending.{Stand, column→, column←, on-entry, reac
 use Rattle.showing.specs.Showing.{fullBefore, condemnedAt}
 use Rattle.showing.proofs.Hidden.{hiding, hiding-is, hides-fresh, hiding-tidy, hiding-own, hiding-full}
 use Rattle.showing.proofs.TestedNode.{tested-hidden}
-use Rattle.condemning.specs.Lead.{Led, Leads}
+use Rattle.links.specs.Lead.{Led, Leads}
 use Rattle.condemning.specs.Marks.{Known, Marking}
 use Rattle.condemning.specs.Search.{downTo, Chain, Search, Hiding, Tried}
 use Rattle.condemning.proofs.Chains.{down-yes, down-no, down-same, In-down, tinted-set, chain-push}

@@ -30,7 +30,7 @@ use Rattle.showing.proofs.Hidden.{after, taken-after}
 use Rattle.showing.proofs.Deleted.{deletes-fresh, condemned-apart}
 use Rattle.removing.specs.Deleting.{Deleting, Deleted}
 use Rattle.removing.proofs.Emptying.{first-some, first-none}
-use Rattle.condemning.specs.Lead.{Led, Leads}
+use Rattle.links.specs.Lead.{Led, Leads}
 use Rattle.condemning.specs.Search.{downTo, Chain, Sparing}
 use Rattle.condemning.proofs.Chains.{In-down}
 
@@ -95,6 +95,7 @@ module _ (g : Ground) (R : Ready g) (i np : ℕ) (C : Condemns np i g (downTo (c
         some w =
             let c = subst (Chain (g .plan) tints r) (w .3) (d .chain) in
             omega (arith, entry-from (g .plan) W (w .0) (entry-is (w .0) (w .2)), c .0, z)
+
         empty : downTo (condemnedAt np i g) (d .bound) ≡ [] → Deleted g np (deletes g (downTo (condemnedAt np i g) (g .plan .N))) heads up down 0
         empty e =
             let s : downTo (condemnedAt np i g) (g .plan .N) ≡ d .done = d .split ∙ ap (λ (l : List ℕ). d .done ++ l) e ∙ append-nil (d .done) in
@@ -149,12 +150,12 @@ module _ (g : Ground) (R : Ready g) (i np : ℕ) (C : Condemns np i g (downTo (c
       within-next y m = subst (λ (x : Ground). Within x y) (taken-after g (deletes g (d .done))) (fresh-within (taken g (deletes g (d .done))) (others g r ++ (r ∷ [])) fresh-next m)
 
       pub at-deleting : Deleting (after g (deletes g (d .done))) r heads up down
-      at-deleting = record
-        { tidy = now-tidy
-        ; entry = at-entry
-        ; others-in = λ y m. within-next y (In-append-l (r ∷ []) (subst (In y) now-others m))
-        ; holds = record { heads-are = d .holds .heads-are; up-are = d .holds .up-are; down-are = d .holds .down-are }
-        }
+      at-deleting = record {
+        tidy = now-tidy;
+        entry = at-entry;
+        others-in = λ y m. within-next y (In-append-l (r ∷ []) (subst (In y) now-others m));
+        holds = record { heads-are = d .holds .heads-are; up-are = d .holds .up-are; down-are = d .holds .down-are };
+      }
 
       pub at-within : Within (after g (deletes g (d .done))) r
       at-within = within-next r (In-append-r (others g r) (here refl))
@@ -169,23 +170,23 @@ module _ (g : Ground) (R : Ready g) (i np : ℕ) (C : Condemns np i g (downTo (c
             ∙ sym (first-none g np (deletes g (d .done)) (others g r ++ (r ∷ [])) (R .tidy) fresh-done (d .none))
 
         pub deletes-stop : z ≢ 0 → Deleted g np (deletes g (downTo (condemnedAt np i g) (g .plan .N))) heads′ up′ down′ z
-        deletes-stop m = record
-          { answer =
+        deletes-stop m = record {
+          answer =
               same-first
               ∙ sym (first-some g np (deletes g (d .done) ++ (others g r ++ (r ∷ []))) (deletes g (downTo (condemnedAt np i g) r)) (λ q. m (same-first ∙ q)))
-              ∙ ap (firstOut g np) (sym whole)
-          ; holds = λ q. absurd (m q)
-          }
+              ∙ ap (firstOut g np) (sym whole);
+          holds = λ q. absurd (m q);
+        }
 
         pub deletes-next : z ≡ 0 → Deletes g i np tints heads′ up′ down′ (at tints (lo (g .plan) r - 1))
-        deletes-next e = record
-          { done = d .done ++ (r ∷ [])
-          ; bound = r
-          ; split = d .split ∙ ap (λ (l : List ℕ). d .done ++ l) (rest .2) ∙ sym (append-assoc (d .done) (r ∷ []) (downTo (condemnedAt np i g) r))
-          ; chain = next-chain
-          ; none = ap (firstOut g np) more ∙ sym same-first ∙ e
-          ; holds = subst (λ (x : Ground). Holds x heads′ up′ down′) place (a .holds e)
-          }
+        deletes-next e = record {
+          done = d .done ++ (r ∷ []);
+          bound = r;
+          split = d .split ∙ ap (λ (l : List ℕ). d .done ++ l) (rest .2) ∙ sym (append-assoc (d .done) (r ∷ []) (downTo (condemnedAt np i g) r));
+          chain = next-chain;
+          none = ap (firstOut g np) more ∙ sym same-first ∙ e;
+          holds = subst (λ (x : Ground). Holds x heads′ up′ down′) place (a .holds e);
+        }
           where
             place : taken (after g (deletes g (d .done))) (others (after g (deletes g (d .done))) r ++ (r ∷ [])) ≡ taken g (deletes g (d .done ++ (r ∷ [])))
             place =
@@ -207,6 +208,7 @@ module _ (g : Ground) (R : Ready g) (i np : ℕ) (C : Condemns np i g (downTo (c
           where
             then-fresh : Fresh g (deletes g (d .done ++ (r ∷ [])))
             then-fresh = subst (Fresh g) (sym more) (fresh-front g (deletes g (d .done) ++ (others g r ++ (r ∷ []))) (deletes g (downTo (condemnedAt np i g) r)) fresh)
+
             same : firstLive (after g (deletes g (d .done ++ (r ∷ [])))) r ≡ firstLive g r
             same =
                 ap not (any-cong (full (taken g (deletes g (d .done ++ (r ∷ []))) .heads)) (full (g .heads)) (span (lo (g .plan) r) r)

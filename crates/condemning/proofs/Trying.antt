@@ -20,7 +20,7 @@ use Rattle.links.proofs.Descending.{column→, on-entry}
 use Rattle.showing.specs.Showing.{condemnedAt}
 use Rattle.showing.proofs.Hidden.{hiding, hiding-tidy}
 use Rattle.testing.specs.Forward.{Test}
-use Rattle.condemning.specs.Lead.{Led, Leads}
+use Rattle.links.specs.Lead.{Led, Leads}
 use Rattle.condemning.specs.Marks.{Known, Marking}
 use Rattle.condemning.specs.Search.{downTo, Chain, Tried, Trying}
 use Rattle.condemning.proofs.Searching.{hidden-known, hidden-holds, search-led, search-marking, search-tested, led-first, led-before, coloured-not, later-not, tested-is, tried-not, tried-yes}

@@ -8,3 +8,4 @@ pub mod Spans
 pub mod Rows
 pub mod Gathering
 pub mod Descending
+pub mod Leading

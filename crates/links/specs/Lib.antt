@@ -6,3 +6,4 @@ pub mod Row
 pub mod Way
 pub mod Shown
 pub mod Taking
+pub mod Lead

@@ -6,3 +6,4 @@
 // The functions of this crate are the leaves that the walks above it call: each has a `requires`, and none is a public call.
 pub mod column;
 pub mod head;
+pub mod lead;

@@ -30,6 +30,7 @@ first-at f i (suc n) k a b h e = ⊎-elim here (λ d. later d (λ u. first-at f 
   where
     here : i ≡ k → firstThat f (i ∷ from (suc i) n) ≡ some k
     here s = ap (λ (t : Bool). cond t (some i) (firstThat f (from (suc i) n))) (ap f s ∙ e) ∙ ap some s
+
     later : i ≢ k → (suc i ≤ k → firstThat f (from (suc i) n) ≡ some k) → firstThat f (i ∷ from (suc i) n) ≡ some k
     later d r = ap (λ (t : Bool). cond t (some i) (firstThat f (from (suc i) n))) (h i (omega arith) (omega arith)) ∙ r (omega arith)
 

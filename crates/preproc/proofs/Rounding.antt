@@ -34,20 +34,20 @@ pub record Going (P : Plan) (total : Step) (np n i : ℕ) (removed : Bool) (head
   pub rest : total ≡ itemSteps np (from i (n - i)) state removed
 
 pub round-begin : {g : Ground} (np n : ℕ) {heads : List ℤ} {up down tints marks : List ℕ} → Standing g heads up down tints marks → Going (g .plan) (round np n (stateOf g)) np n 0 false heads up down tints marks
-round-begin {g} np n s = record
-  { state = stateOf g
-  ; holding = record { ground = g; plan = refl; shows = refl; standing = s }
-  ; rest = round-steps np n (stateOf g) ∙ (let e : n ≡ n - 0 = omega arith in ap (λ (k : ℕ). itemSteps np (from 0 k) (stateOf g) false) e)
-  }
+round-begin {g} np n s = record {
+  state = stateOf g;
+  holding = record { ground = g; plan = refl; shows = refl; standing = s };
+  rest = round-steps np n (stateOf g) ∙ (let e : n ≡ n - 0 = omega arith in ap (λ (k : ℕ). itemSteps np (from 0 k) (stateOf g) false) e);
+}
 
 module _ {P : Plan} {first np n : ℕ} (f : Figured P first np) (m : n ≡ P .n) where
   module _ {total : Step} {i : ℕ} {removed : Bool} {heads : List ℤ} {up down tints marks : List ℕ} (G : Going P total np n i removed heads up down tints marks) where
     -- at the end nothing is left
     pub round-end : n ≤ i → Stepped P total 0 0 removed heads up down tints marks
-    round-end l = record
-      { stops = λ q. absurd (q refl)
-      ; goes = λ q. (G .state, G .rest ∙ (let e : n - i ≡ 0 = omega arith in ap (λ (k : ℕ). itemSteps np (from i k) (G .state) removed) e) ∙ steps-done np (G .state) removed, G .holding)
-      }
+    round-end l = record {
+      stops = λ q. absurd (q refl);
+      goes = λ q. (G .state, G .rest ∙ (let e : n - i ≡ 0 = omega arith in ap (λ (k : ℕ). itemSteps np (from i k) (G .state) removed) e) ∙ steps-done np (G .state) removed, G .holding);
+    }
 
     module _ (l : i < n) where
       pub round-figured : Figured (G .holding .ground .plan) first np
@@ -82,11 +82,11 @@ module _ {P : Plan} {first np n : ℕ} (f : Figured P first np) (m : n ≡ P .n)
 
       -- an item in no option is passed over
       pub round-over : itemOf (head heads (i + 1)) ≡ 0 → Going P total np n (i + 1) removed heads up down tints marks
-      round-over z = record
-        { state = G .state
-        ; holding = G .holding
-        ; rest = one-more ∙ steps-over np i (from (i + 1) (n - (i + 1))) (G .state) removed (live-is ∙ le-ltb 0 (itemOf (head heads (i + 1))) (omega arith))
-        }
+      round-over z = record {
+        state = G .state;
+        holding = G .holding;
+        rest = one-more ∙ steps-over np i (from (i + 1) (n - (i + 1))) (G .state) removed (live-is ∙ le-ltb 0 (itemOf (head heads (i + 1))) (omega arith));
+      }
 
       -- any other takes its step
       module _ (z : itemOf (head heads (i + 1)) ≢ 0) {item cause : ℕ} {more : Bool} {heads′ : List ℤ} {up′ down′ tints′ marks′ : List ℕ} (t : Stepped (G .holding .ground .plan) (itemStep np i (stateOf (G .holding .ground))) item cause more heads′ up′ down′ tints′ marks′) where
@@ -98,16 +98,16 @@ module _ {P : Plan} {first np n : ℕ} (f : Figured P first np) (m : n ≡ P .n)
 
         pub round-stop : item ≢ 0 → Stepped P total item cause more heads′ up′ down′ tints′ marks′
         round-stop q = record
-          { stops = λ u. one-more ∙ steps-emptied np i (from (i + 1) (n - (i + 1))) (G .state) removed (item - 1) cause live (same-step ∙ t .stops q); goes = λ u. absurd (q u) }
+            { stops = λ u. one-more ∙ steps-emptied np i (from (i + 1) (n - (i + 1))) (G .state) removed (item - 1) cause live (same-step ∙ t .stops q); goes = λ u. absurd (q u) }
 
         pub round-next : item ≡ 0 → Going P total np n (i + 1) (removed || more) heads′ up′ down′ tints′ marks′
         round-next q =
             let w = stepped-plan (G .holding .plan) t .goes q in
-            record
-              { state = w .0
-              ; holding = w .2
-              ; rest = one-more ∙ steps-went np i (from (i + 1) (n - (i + 1))) (G .state) (w .0) removed more live (same-step ∙ w .1)
-              }
+            record {
+              state = w .0;
+              holding = w .2;
+              rest = one-more ∙ steps-went np i (from (i + 1) (n - (i + 1))) (G .state) (w .0) removed more live (same-step ∙ w .1);
+            }
 
 -- The rounds are at round r: the lists hold the state, and the rest is the rules' rest.
 pub record Turning (P : Plan) (total : Finding) (np n cap r : ℕ) (heads : List ℤ) (up down tints marks : List ℕ) : Type 0 where
@@ -116,20 +116,20 @@ pub record Turning (P : Plan) (total : Finding) (np n cap r : ℕ) (heads : List
   pub rest : total ≡ rounds np n (cap - r) r state
 
 pub rounds-begin : {g : Ground} (np n cap : ℕ) {heads : List ℤ} {up down tints marks : List ℕ} → Standing g heads up down tints marks → Turning (g .plan) (rounds np n cap 0 (stateOf g)) np n cap 0 heads up down tints marks
-rounds-begin {g} np n cap s = record
-  { state = stateOf g
-  ; holding = record { ground = g; plan = refl; shows = refl; standing = s }
-  ; rest = let e : cap ≡ cap - 0 = omega arith in ap (λ (k : ℕ). rounds np n k 0 (stateOf g)) e
-  }
+rounds-begin {g} np n cap s = record {
+  state = stateOf g;
+  holding = record { ground = g; plan = refl; shows = refl; standing = s };
+  rest = let e : cap ≡ cap - 0 = omega arith in ap (λ (k : ℕ). rounds np n k 0 (stateOf g)) e;
+}
 
 module _ {P : Plan} {first np n : ℕ} (f : Figured P first np) (m : n ≡ P .n) (cap : ℕ) where
   module _ {total : Finding} {r : ℕ} {heads : List ℤ} {up down tints marks : List ℕ} (G : Turning P total np n cap r heads up down tints marks) where
     -- the cap is reached
     pub rounds-end : cap ≤ r → Ended P total 0 0 r false heads up down tints marks
-    rounds-end l = record
-      { stops = λ q. absurd (q refl)
-      ; goes = λ q. (G .state, G .rest ∙ (let e : cap - r ≡ 0 = omega arith in ap (λ (k : ℕ). rounds np n k r (G .state)) e) ∙ rounds-done np n r (G .state), G .holding)
-      }
+    rounds-end l = record {
+      stops = λ q. absurd (q refl);
+      goes = λ q. (G .state, G .rest ∙ (let e : cap - r ≡ 0 = omega arith in ap (λ (k : ℕ). rounds np n k r (G .state)) e) ∙ rounds-done np n r (G .state), G .holding);
+    }
 
     pub rounds-figured : Figured (G .holding .ground .plan) first np
     rounds-figured = subst (λ (X : Plan). Figured X first np) (sym (G .holding .plan)) f

@@ -92,15 +92,19 @@ module _ {g : Ground} (i : ℕ) {c first np : ℕ} {heads : List ℤ} {up down t
             (λ y x m o ex k. r .same q x ex (λ j. stays y o m .1 (sym k ∙ j))) (s .known)
 
         pub step-removed : Stepped (g .plan) (itemStep np i (stateOf g)) z 2 true heads₃ up₃ down₃ tints marks
-        step-removed = record
-          { stops = λ m. removing-empties g R np i (p - 1) one (z - 1) (sym answer ∙ omega arith)
-          ; goes = λ q. (shown (g .plan) (maskWithout g (i + 1) (p - 1 + 1)), step-removes g R np i (p - 1) one (sym answer ∙ q), record
-            { ground = removed g c p heads₃ up₃ down₃
-            ; plan = refl
-            ; shows = same-state
-            ; standing = record { ready = r .ready q; tinted = s .tinted; known = known q; holds = record { heads-are = refl; up-are = refl; down-are = refl } }
-            })
-          }
+        step-removed = record {
+          stops = λ m. removing-empties g R np i (p - 1) one (z - 1) (sym answer ∙ omega arith);
+          goes = λ q. (
+            shown (g .plan) (maskWithout g (i + 1) (p - 1 + 1)),
+            step-removes g R np i (p - 1) one (sym answer ∙ q),
+            record {
+              ground = removed g c p heads₃ up₃ down₃;
+              plan = refl;
+              shows = same-state;
+              standing = record { ready = r .ready q; tinted = s .tinted; known = known q; holds = record { heads-are = refl; up-are = refl; down-are = refl } };
+            },
+          );
+        }
 
     -- It empties none: the options that begin with the item are tested.
     module _ (q : p ≡ 0) where
@@ -130,6 +134,7 @@ module _ {g : Ground} (i : ℕ) {c first np : ℕ} {heads : List ℤ} {up down t
           where
             empty : downTo (condemnedAt np i g) (g .plan .N) ≡ [] → ltb 0 (length (downTo (condemnedAt np i g) (g .plan .N))) ≡ b
             empty x = ap (λ (y : List ℕ). ltb 0 (length y)) x ∙ sym (nil (subst (Chain (g .plan) tints₂ l) x (t .chain)))
+
             some : (x : ℕ) × (x < g .plan .N) × (condemnedAt np i g x ≡ true) × (downTo (condemnedAt np i g) (g .plan .N) ≡ x ∷ downTo (condemnedAt np i g) x) → ltb 0 (length (downTo (condemnedAt np i g) (g .plan .N))) ≡ b
             some x =
                 let l-is = subst (Chain (g .plan) tints₂ l) (x .3) (t .chain) .0 in
@@ -146,19 +151,23 @@ module _ {g : Ground} (i : ℕ) {c first np : ℕ} {heads : List ℤ} {up down t
           fresh = deletes-fresh g R (downTo (condemnedAt np i g) (g .plan .N)) (C .entry) (C .on) apart
 
           pub step-deleted : Stepped (g .plan) (itemStep np i (stateOf g)) z 3 b heads₄ up₄ down₄ tints₂ marks₂
-          step-deleted = record
-            { stops = λ m. deleting-empties g R np i quiet (downTo (condemnedAt np i g) (g .plan .N)) C (z - 1) (sym (d .answer) ∙ omega arith)
-            ; goes = λ x. (shown (g .plan) (taken g (deletes g (downTo (condemnedAt np i g) (g .plan .N))) .on), step-deletes g R np i quiet (downTo (condemnedAt np i g) (g .plan .N)) C (sym (d .answer) ∙ x) ∙ ap (went (shown (g .plan) (taken g (deletes g (downTo (condemnedAt np i g) (g .plan .N))) .on))) (found-some b got nil), record
-              { ground = after g (deletes g (downTo (condemnedAt np i g) (g .plan .N)))
-              ; plan = refl
-              ; shows = refl
-              ; standing = record
-                { ready = subst Ready (taken-after g (deletes g (downTo (condemnedAt np i g) (g .plan .N)))) (deleted-ready g R (downTo (condemnedAt np i g) (g .plan .N)) (C .entry) (C .on) apart)
-                ; tinted = t .tinted
-                ; known = known-pass g (after g (deletes g (downTo (condemnedAt np i g) (g .plan .N)))) (g .on) (taken g (deletes g (downTo (condemnedAt np i g) (g .plan .N))) .on) marks₂ refl
-                  (λ y o. on-taken g (deletes g (downTo (condemnedAt np i g) (g .plan .N))) y o .0)
-                  (λ y k m o ek j. taken-head g (deletes g (downTo (condemnedAt np i g) (g .plan .N))) (R .tidy) fresh k (entry-no-header (g .plan) W k ek)) (t .known)
-                ; holds = let w = d .holds x in record { heads-are = w .heads-are; up-are = w .up-are; down-are = w .down-are }
-                }
-              })
-            }
+          step-deleted = record {
+            stops = λ m. deleting-empties g R np i quiet (downTo (condemnedAt np i g) (g .plan .N)) C (z - 1) (sym (d .answer) ∙ omega arith);
+            goes = λ x. (
+              shown (g .plan) (taken g (deletes g (downTo (condemnedAt np i g) (g .plan .N))) .on),
+              step-deletes g R np i quiet (downTo (condemnedAt np i g) (g .plan .N)) C (sym (d .answer) ∙ x) ∙ ap (went (shown (g .plan) (taken g (deletes g (downTo (condemnedAt np i g) (g .plan .N))) .on))) (found-some b got nil),
+              record {
+                ground = after g (deletes g (downTo (condemnedAt np i g) (g .plan .N)));
+                plan = refl;
+                shows = refl;
+                standing = record {
+                  ready = subst Ready (taken-after g (deletes g (downTo (condemnedAt np i g) (g .plan .N)))) (deleted-ready g R (downTo (condemnedAt np i g) (g .plan .N)) (C .entry) (C .on) apart);
+                  tinted = t .tinted;
+                  known = known-pass g (after g (deletes g (downTo (condemnedAt np i g) (g .plan .N)))) (g .on) (taken g (deletes g (downTo (condemnedAt np i g) (g .plan .N))) .on) marks₂ refl
+                      (λ y o. on-taken g (deletes g (downTo (condemnedAt np i g) (g .plan .N))) y o .0)
+                      (λ y k m o ek j. taken-head g (deletes g (downTo (condemnedAt np i g) (g .plan .N))) (R .tidy) fresh k (entry-no-header (g .plan) W k ek)) (t .known);
+                  holds = let w = d .holds x in record { heads-are = w .heads-are; up-are = w .up-are; down-are = w .down-are };
+                };
+              },
+            );
+          }

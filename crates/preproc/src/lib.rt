@@ -1,5 +1,4 @@
 // The rounds (p.rs `reduce_options`, `reduce`): item after item, round after round, over the nodes. The functions of this crate have a `requires`; none is
 // a public call.
-pub mod step;
-
 pub mod rounds;
+pub mod step;

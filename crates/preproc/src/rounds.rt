@@ -6,7 +6,6 @@ ghost use Rattle.rules.specs.Rounds.{uncovered as uncoveredIn, round as roundOf
 ghost use Rattle.links.specs.Ground.{Ground};
 ghost use Rattle.showing.specs.Showing.{stateOf, columnOr};
 ghost use Rattle.preproc.specs.Standing.{Standing, Figured, Looking, Stepped, Ended};
-
 use crate::step::Step;
 use crate::step::reduce_options;
 use links::head::item_at;
@@ -41,7 +40,16 @@ pub fn uncovered(heads: &[i32], np: usize) -> usize
 }
 
 // Items upward, each one whose column is not empty then.
-pub fn round(heads: &mut [i32], up: &mut [u32], down: &mut [u32], tints: &mut [u32], marks: &mut [u32], n: usize, start: usize, np: usize) -> Step
+pub fn round(
+    heads: &mut [i32],
+    up: &mut [u32],
+    down: &mut [u32],
+    tints: &mut [u32],
+    marks: &mut [u32],
+    n: usize,
+    start: usize,
+    np: usize,
+) -> Step
     requires { ⌜ ((g : Ground) × Standing g (now heads) (now up) (now down) (now tints) (now marks) × Figured (g .plan) start np × (n ≡ g .plan .n)) ⌝ }
     ensures { λ r. ⌜ ((g : Ground) → Standing g (now (heads .entry)) (now (up .entry)) (now (down .entry)) (now (tints .entry)) (now (marks .entry)) → Figured (g .plan) start np → n ≡ g .plan .n
         → Stepped (g .plan) (roundOf np n (stateOf g)) (r .item) (r .cause) (r .removed) (now (heads .exit)) (now (up .exit)) (now (down .exit)) (now (tints .exit)) (now (marks .exit))) ⌝ }
@@ -53,32 +61,79 @@ pub fn round(heads: &mut [i32], up: &mut [u32], down: &mut [u32], tints: &mut [u
             i += 1;
             continue;
         }
-        let step = reduce_options(&mut *heads, &mut *up, &mut *down, &mut *tints, &mut *marks, i + 1, start, np);
+        let step = reduce_options(
+            &mut *heads,
+            &mut *up,
+            &mut *down,
+            &mut *tints,
+            &mut *marks,
+            i + 1,
+            start,
+            np,
+        );
         if step.item != 0 {
             return step;
         }
         removed = either(removed, step.removed);
         i += 1;
     }
-    Step { item: 0, cause: 0, removed: removed }
+    Step {
+        item: 0,
+        cause: 0,
+        removed: removed,
+    }
 }
 
 // While fewer rounds than the cap have run; a round that removed nothing ends the work.
-pub fn rounds(heads: &mut [i32], up: &mut [u32], down: &mut [u32], tints: &mut [u32], marks: &mut [u32], n: usize, start: usize, np: usize, cap: u32) -> Found
+pub fn rounds(
+    heads: &mut [i32],
+    up: &mut [u32],
+    down: &mut [u32],
+    tints: &mut [u32],
+    marks: &mut [u32],
+    n: usize,
+    start: usize,
+    np: usize,
+    cap: u32,
+) -> Found
     requires { ⌜ ((g : Ground) × Standing g (now heads) (now up) (now down) (now tints) (now marks) × Figured (g .plan) start np × (n ≡ g .plan .n)) ⌝ }
     ensures { λ r. ⌜ ((g : Ground) → Standing g (now (heads .entry)) (now (up .entry)) (now (down .entry)) (now (tints .entry)) (now (marks .entry)) → Figured (g .plan) start np → n ≡ g .plan .n
         → Ended (g .plan) (roundsOf np n cap 0 (stateOf g)) (r .item) (r .cause) (r .rounds) (r .settled) (now (heads .exit)) (now (up .exit)) (now (down .exit)) (now (tints .exit)) (now (marks .exit))) ⌝ }
 {
     let mut r: u32 = 0;
     while r < cap {
-        let step = round(&mut *heads, &mut *up, &mut *down, &mut *tints, &mut *marks, n, start, np);
+        let step = round(
+            &mut *heads,
+            &mut *up,
+            &mut *down,
+            &mut *tints,
+            &mut *marks,
+            n,
+            start,
+            np,
+        );
         r += 1;
         if step.item != 0 {
-            return Found { item: step.item, cause: step.cause, rounds: r, settled: false };
+            return Found {
+                item: step.item,
+                cause: step.cause,
+                rounds: r,
+                settled: false,
+            };
         }
         if !step.removed {
-            return Found { item: 0, cause: 0, rounds: r, settled: true };
+            return Found {
+                item: 0,
+                cause: 0,
+                rounds: r,
+                settled: true,
+            };
         }
     }
-    Found { item: 0, cause: 0, rounds: r, settled: false }
+    Found {
+        item: 0,
+        cause: 0,
+        rounds: r,
+        settled: false,
+    }
 }

@@ -21,11 +21,13 @@ module _ (g : Ground) (r : ℕ) (heads : List ℤ) (up down : List ℕ) (d : Del
   drop-asks =
       let t = d .tidy in
       let from = entry-from (g .plan) (t .planned) r (d .entry) in
-      let till = entry-till (g .plan) (t .planned) r (d .entry) in
-      (omega arith, omega (arith, t .planned .small),
-      rw (d .holds .heads-are) (omega (arith, till, t .heads-in)),
-      rw (d .holds .up-are) (omega (arith, till, t .ring .ups)),
-      rw (d .holds .down-are) (omega (arith, till, t .ring .downs)))
+      let till = entry-till (g .plan) (t .planned) r (d .entry) in (
+        omega arith,
+        omega (arith, t .planned .small),
+        rw (d .holds .heads-are) (omega (arith, till, t .heads-in)),
+        rw (d .holds .up-are) (omega (arith, till, t .ring .ups)),
+        rw (d .holds .down-are) (omega (arith, till, t .ring .downs)),
+      )
 
   module _ (np p : ℕ) (heads′ : List ℤ) (up′ down′ : List ℕ) where
     pub drop-shortens : true ≡ holdsOther g r p → heads′ ≡ set heads r (pos 0) → up′ ≡ set up r (r + 1) → down′ ≡ set down r (r - 1) → Dropped g np r p heads′ up′ down′ 0

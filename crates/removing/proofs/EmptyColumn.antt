@@ -17,7 +17,7 @@ use Rattle.removing.proofs.OffColumn.{tally-alike}
 use Rattle.links.proofs.Stores.{same?, less?}
 
 module _ (g : Ground) (t : Tidy g) (c : ℕ) (h : Header (g .plan) c) (none : (y : ℕ) → g .on y ≡ true → g .plan .col y ≢ c)
-  (on : ℕ → Bool) (own-on : on c ≡ true) (others-on : (y : ℕ) → y ≢ c → on y ≡ g .on y) where
+    (on : ℕ → Bool) (own-on : on c ≡ true) (others-on : (y : ℕ) → y ≢ c → on y ≡ g .on y) where
   W : Planned (g .plan)
   W = t .planned
 

@@ -43,16 +43,16 @@ passed-front heads a b p nn h k i j = ⊎-elim ahead behind (less? p nn)
     ahead l = (
       keep (full heads) (span nn b) ++ keep (full heads) (span a p),
       rw (le-ltb p p (omega arith), lt-ltb p nn l)
-      (ap (λ (z : List ℕ). z ++ keep (full heads) (span a p)) (keep-span (full heads) (p + 1) nn b (omega arith) j)
-      ∙ append-assoc (keep (full heads) (span (p + 1) nn)) (keep (full heads) (span nn b)) (keep (full heads) (span a p))),
+          (ap (λ (z : List ℕ). z ++ keep (full heads) (span a p)) (keep-span (full heads) (p + 1) nn b (omega arith) j)
+          ∙ append-assoc (keep (full heads) (span (p + 1) nn)) (keep (full heads) (span nn b)) (keep (full heads) (span a p))),
     )
 
     behind : nn ≤ p → (rest : List ℕ) × (passed heads a b p p ≡ passed heads a b p nn ++ rest)
     behind l = (
       keep (full heads) (span nn p),
       rw (le-ltb p p (omega arith), le-ltb p nn l)
-      (ap (λ (z : List ℕ). keep (full heads) (span (p + 1) b) ++ z) (keep-span (full heads) a nn p i l)
-      ∙ sym (append-assoc (keep (full heads) (span (p + 1) b)) (keep (full heads) (span a nn)) (keep (full heads) (span nn p)))),
+          (ap (λ (z : List ℕ). keep (full heads) (span (p + 1) b) ++ z) (keep-span (full heads) a nn p i l)
+          ∙ sym (append-assoc (keep (full heads) (span (p + 1) b)) (keep (full heads) (span a nn)) (keep (full heads) (span nn p)))),
     )
 
 pub walked-front : (g : Ground) (p : ℕ) → EntryOf (g .plan) p → (nn : ℕ) → At g p nn → (rest : List ℕ) × (others g p ≡ walked g p nn ++ rest)

@@ -29,11 +29,12 @@ module _ (g : Ground) (c p y : ℕ) where
   pub stays→ : maskWithout g c p y ≡ true → (g .on y ≡ true) × ((y < start (g .plan)) ⊎ ((g .plan .col y ≢ c) × T (keeps g c p y)))
   unfolding maskWithout
   stays→ e =
-      let a = T-and (g .on y) (ltb y (start (g .plan)) || (not (eqb (g .plan .col y) c) && keeps g c p y)) (true-T e) in
-      (T-true (g .on y) (a .0),
-      ⊎-elim (λ b. inl (ltb-true y (start (g .plan)) (T-true (ltb y (start (g .plan))) b)))
-      (λ b. let d = T-and (not (eqb (g .plan .col y) c)) (keeps g c p y) b in inr (neqb→ne (g .plan .col y) c (d .0), d .1))
-      (T-or (ltb y (start (g .plan))) (not (eqb (g .plan .col y) c) && keeps g c p y) (a .1)))
+      let a = T-and (g .on y) (ltb y (start (g .plan)) || (not (eqb (g .plan .col y) c) && keeps g c p y)) (true-T e) in (
+        T-true (g .on y) (a .0),
+        ⊎-elim (λ b. inl (ltb-true y (start (g .plan)) (T-true (ltb y (start (g .plan))) b)))
+            (λ b. let d = T-and (not (eqb (g .plan .col y) c)) (keeps g c p y) b in inr (neqb→ne (g .plan .col y) c (d .0), d .1))
+            (T-or (ltb y (start (g .plan))) (not (eqb (g .plan .col y) c) && keeps g c p y) (a .1)),
+      )
 
   pub →stays : g .on y ≡ true → (y < start (g .plan)) ⊎ ((g .plan .col y ≢ c) × T (keeps g c p y)) → maskWithout g c p y ≡ true
   unfolding maskWithout

@@ -22,7 +22,7 @@ use Rattle.removing.proofs.Deletes.{others-fresh}
 
 -- The others first, then r itself.
 module _ (g : Ground) (r : ℕ) (heads₀ : List ℤ) (up₀ down₀ : List ℕ) (d : Deleting g r heads₀ up₀ down₀) (w : Within g r) (np : ℕ)
-  (heads : List ℤ) (up down : List ℕ) (z : ℕ) (o : Deleted g np (others g r) heads up down z) where
+    (heads : List ℤ) (up down : List ℕ) (z : ℕ) (o : Deleted g np (others g r) heads up down z) where
   fresh : Fresh g (others g r)
   fresh = others-fresh g r heads₀ up₀ down₀ d
 

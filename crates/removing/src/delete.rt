@@ -24,7 +24,13 @@ pub fn take_out(heads: &mut [i32], up: &mut [u32], down: &mut [u32], x: usize, n
 
 // Takes every entry of r's option but r itself out of its column, in cyclic order from the entry after r, until a primary column is
 // emptied: its number, or 0.
-pub fn delete_others(heads: &mut [i32], up: &mut [u32], down: &mut [u32], r: usize, np: usize) -> usize
+pub fn delete_others(
+    heads: &mut [i32],
+    up: &mut [u32],
+    down: &mut [u32],
+    r: usize,
+    np: usize,
+) -> usize
     requires { ⌜ ((g : Ground) × Deleting g r (now heads) (now up) (now down)) ⌝ }
     ensures { λ z. ⌜ ((g : Ground) → Deleting g r (now (heads .entry)) (now (up .entry)) (now (down .entry))
         → Deleted g np (others g r) (now (heads .exit)) (now (up .exit)) (now (down .exit)) z) ⌝ }
@@ -47,7 +53,13 @@ pub fn delete_others(heads: &mut [i32], up: &mut [u32], down: &mut [u32], r: usi
 }
 
 // Deletes r's option: the other entries first, r last.
-pub fn really_delete_option(heads: &mut [i32], up: &mut [u32], down: &mut [u32], r: usize, np: usize) -> usize
+pub fn really_delete_option(
+    heads: &mut [i32],
+    up: &mut [u32],
+    down: &mut [u32],
+    r: usize,
+    np: usize,
+) -> usize
     requires { ⌜ ((g : Ground) × Deleting g r (now heads) (now up) (now down) × Within g r) ⌝ }
     ensures { λ z. ⌜ ((g : Ground) → Deleting g r (now (heads .entry)) (now (up .entry)) (now (down .entry)) → Within g r
         → Deleted g np (others g r ++ (r ∷ [])) (now (heads .exit)) (now (up .exit)) (now (down .exit)) z) ⌝ }

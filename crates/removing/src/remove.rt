@@ -46,7 +46,14 @@ pub fn shorten(heads: &mut [i32], up: &mut [u32], down: &mut [u32], r: usize)
 }
 
 // Shortens r's option where it holds p, else deletes its other entries: the first primary column emptied, or 0.
-pub fn delete_or_shorten(heads: &mut [i32], up: &mut [u32], down: &mut [u32], r: usize, p: usize, np: usize) -> usize
+pub fn delete_or_shorten(
+    heads: &mut [i32],
+    up: &mut [u32],
+    down: &mut [u32],
+    r: usize,
+    p: usize,
+    np: usize,
+) -> usize
     requires { ⌜ ((g : Ground) × Deleting g r (now heads) (now up) (now down)) ⌝ }
     ensures { λ z. ⌜ ((g : Ground) → Deleting g r (now (heads .entry)) (now (up .entry)) (now (down .entry))
         → Dropped g np r p (now (heads .exit)) (now (up .exit)) (now (down .exit)) z) ⌝ }
@@ -72,7 +79,15 @@ pub fn clear_column(heads: &mut [i32], up: &mut [u32], down: &mut [u32], c: usiz
 
 // Removes item c (its column), redundant for p: options that hold c lose it where they hold p, and are deleted where not. The first primary
 // column emptied, or 0. Entries have numbers from `start` on; `np` is the number of the last primary column.
-pub fn remove_item(heads: &mut [i32], up: &mut [u32], down: &mut [u32], c: usize, p: usize, start: usize, np: usize) -> usize
+pub fn remove_item(
+    heads: &mut [i32],
+    up: &mut [u32],
+    down: &mut [u32],
+    c: usize,
+    p: usize,
+    start: usize,
+    np: usize,
+) -> usize
     requires { ⌜ ((g : Ground) × Removing g c p start (now heads) (now up) (now down)) ⌝ }
     ensures { λ z. ⌜ ((g : Ground) → Removing g c p start (now (heads .entry)) (now (up .entry)) (now (down .entry))
         → Removed g c p np (now (heads .exit)) (now (up .exit)) (now (down .exit)) z) ⌝ }

@@ -142,8 +142,7 @@ module _ (g : Ground) (xs : List ℕ) (x : ℕ) (t : Tidy g) (f : Fresh g (xs ++
       let G : Ground = after g xs in
       let u : at up x ≡ at (G .up) x = rw up-one (up-stays (G .plan .N) (G .plan .col) (G .on) (G .up) (G .down) (before-tidy .ring) x (last-within .on)) in
       let d : at down x ≡ at (G .down) x = rw down-one (down-stays (G .plan .N) (G .plan .col) (G .on) (G .up) (G .down) (before-tidy .ring) x (last-within .on)) in
-      let n = node-in G before-tidy x last-within in
-      (
+      let n = node-in G before-tidy x last-within in (
         omega (arith, n, t .planned .small),
         omega (arith, n, one-lengths .1, before-tidy .ring .ups),
         omega (arith, n, one-lengths .2, before-tidy .ring .downs),

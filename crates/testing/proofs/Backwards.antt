@@ -48,7 +48,13 @@ module _ (h : Ground) (tints : List ℕ) (k r s : ℕ) (heads : List ℤ) (up do
 
       pub behind-over : Behind h tints (at down k) r s heads up down
       behind-over = record {
-        tidy = m .tidy; headers = m .headers; tinted = m .tinted; starts = m .starts; entry = m .entry; from = on-at .from; till = on-at .till;
+        tidy = m .tidy;
+        headers = m .headers;
+        tinted = m .tinted;
+        starts = m .starts;
+        entry = m .entry;
+        from = on-at .from;
+        till = on-at .till;
         fresh = subst (λ (qs : List ℕ). Fresh h (testing h qs)) same-walked (m .fresh);
         holds = subst (λ (qs : List ℕ). Holds (taken h (testing h qs)) heads up down) same-walked (m .holds);
       }
@@ -115,8 +121,15 @@ module _ (h : Ground) (tints : List ℕ) (k r s : ℕ) (heads : List ℤ) (up do
       behind-back heads′ up′ down′ l =
           let e : k - 1 + 1 ≡ k = omega (arith, behind-some) in
           record {
-            tidy = m .tidy; headers = m .headers; tinted = m .tinted; starts = m .starts; entry = m .entry; from = rw e (at-entry .from); till = rw e (at-entry .till);
-            fresh = rw e fresh-earlier; holds = rw e (held h earlier l);
+            tidy = m .tidy;
+            headers = m .headers;
+            tinted = m .tinted;
+            starts = m .starts;
+            entry = m .entry;
+            from = rw e (at-entry .from);
+            till = rw e (at-entry .till);
+            fresh = rw e fresh-earlier;
+            holds = rw e (held h earlier l);
           }
 
       pub behind-back-way : (n : ℕ) → length heads ≡ n → wayBack n r (k - 1) < wayBack n r k

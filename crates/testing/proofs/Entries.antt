@@ -87,7 +87,10 @@ module _ (h : Ground) (tints marks : List ℕ) (r s np : ℕ) (heads : List ℤ)
 
       pub inner-over : Inner h tints marks r s np heads up down q p (at up qq)
       inner-over = record {
-        item = m .item; rival = m .rival; from = on-at .from; till = on-at .till;
+        item = m .item;
+        rival = m .rival;
+        from = on-at .from;
+        till = on-at .till;
         fresh = subst (λ (xs : List ℕ). Fresh (groundTo h r q p) xs) same-walked (m .fresh);
         alive = m .alive;
         holds = subst (λ (xs : List ℕ). Holds (taken (groundTo h r q p) xs) heads up down) same-walked (m .holds);
@@ -137,7 +140,10 @@ module _ (h : Ground) (tints marks : List ℕ) (r s np : ℕ) (heads : List ℤ)
       pub inner-take : stopsAt heads marks (itemOf (head heads qq)) r np ≡ false
           → Inner h tints marks r s np (set heads (itemOf (head heads qq)) (pos (itemOf (head heads (itemOf (head heads qq))) - 1))) (cutUp up down qq) (cutDown up down qq) q p (qq + 1)
       inner-take n = record {
-        item = m .item; rival = m .rival; from = omega (arith, m .from); till = omega (arith, inside);
+        item = m .item;
+        rival = m .rival;
+        from = omega (arith, m .from);
+        till = omega (arith, inside);
         fresh = subst (λ (xs : List ℕ). Fresh (groundTo h r q p) xs) (sym walked-more) (fresh-one-more (groundTo h r q p) (walked (groundTo h r q p) p qq) qq to-tidy (m .fresh) inner-within heads up down (m .holds));
         alive = alive-less h marks r np heads (itemOf (head heads qq)) (m .alive) (inner-fewer .0) n;
         holds = rw inner-col (subst (λ (xs : List ℕ). Holds (taken (groundTo h r q p) xs) (set heads (h .plan .col qq) (pos (itemOf (head heads (h .plan .col qq)) - 1))) (cutUp up down qq) (cutDown up down qq)) (sym walked-more) (take-out (groundTo h r q p) (walked (groundTo h r q p) p qq) qq to-tidy (m .fresh) inner-within heads up down (m .holds)));

@@ -75,8 +75,12 @@ module _ (h : Ground) (r : ℕ) (w : Tested h r) where
       record {
         at = b .0;
         clash = record {
-          item = a .0; among = a .1; entry = row-mate (h .plan) (t .planned) y (b .0) e (s .0) (s .1); on = T-true (h .on (b .0)) (v .0);
-          col = eqb→eq (h .plan .col (b .0)) (h .plan .col (a .0)) (v .1); differ = T-false (agree (h .plan .tint (a .0)) (h .plan .tint (b .0))) (u .1);
+          item = a .0;
+          among = a .1;
+          entry = row-mate (h .plan) (t .planned) y (b .0) e (s .0) (s .1);
+          on = T-true (h .on (b .0)) (v .0);
+          col = eqb→eq (h .plan .col (b .0)) (h .plan .col (a .0)) (v .1);
+          differ = T-false (agree (h .plan .tint (a .0)) (h .plan .tint (b .0))) (u .1);
         };
         number = sym (t .planned .numbered (h .plan .number y) (b .0) (e .option) (s .0) (s .1));
       }
@@ -87,7 +91,8 @@ module _ (h : Ground) (tints marks : List ℕ) (r s np q : ℕ) (m : Item h tint
   hit-out {y} i =
       let o = m .stage .out y i in
       record {
-        at = o .met; clash = clash-others h r (m .test .tested) q (m .from) (omega (arith, m .till)) (o .clash);
+        at = o .met;
+        clash = clash-others h r (m .test .tested) q (m .from) (omega (arith, m .till)) (o .clash);
         number = In-others h (m .test .tested .tidy) (o .met) (o .clash .entry) (o .one) .1;
       }
 

@@ -33,7 +33,9 @@ module _ (h : Ground) (tints marks : List ℕ) (r s np : ℕ) (heads : List ℤ)
       let b = walk-begins h (w .tested .tidy) r (w .tested .entry) in
       let n = walked-none h (w .tested .tidy) r (w .tested .entry) in
       record {
-        test = w; from = b .from; till = b .till;
+        test = w;
+        from = b .from;
+        till = b .till;
         stage = subst (λ (qs : List ℕ). Stage h qs (testing h qs)) (sym n) (stage-none h);
         alive = λ i a b c d. rw (l .heads-are) d;
         holds = subst (λ (qs : List ℕ). Holds (taken h (testing h qs)) heads up down) (sym n) l;
@@ -63,7 +65,9 @@ module _ (h : Ground) (tints marks : List ℕ) (r s np : ℕ) (heads : List ℤ)
 
         pub outer-over : Outer h tints marks r s np heads up down (at up q)
         outer-over = record {
-          test = m .test; from = on-at .from; till = on-at .till;
+          test = m .test;
+          from = on-at .from;
+          till = on-at .till;
           stage = subst (λ (qs : List ℕ). Stage h qs (testing h qs)) same-walked (m .stage);
           alive = m .alive;
           holds = subst (λ (qs : List ℕ). Holds (taken h (testing h qs)) heads up down) same-walked (m .holds);
@@ -79,7 +83,8 @@ module _ (h : Ground) (tints marks : List ℕ) (r s np : ℕ) (heads : List ℤ)
       module _ (z : itemOf (head heads q) ≢ 0) where
         pub outer-item : Item h tints marks r s np q
         outer-item = record {
-          test = m .test; from = m .from;
+          test = m .test;
+          from = m .from;
           till = Forth.full-inside h (outAt h r q) t (m .stage .fresh) r e heads up down (m .holds) q (m .from) (m .till) d z;
           other = d;
           full = Forth.full-head h (outAt h r q) t (m .stage .fresh) r e heads up down (m .holds) q (m .from) (m .till) d z;

@@ -32,8 +32,15 @@ module _ (h : Ground) (tints marks : List ℕ) (r s np q : ℕ) (w : Test h tint
   to-behind =
       let e : q - 1 + 1 ≡ q = omega (arith, place-some) in
       record {
-        tidy = w .tested .tidy; headers = w .tested .headers; tinted = w .tinted; starts = w .starts; entry = w .tested .entry;
-        from = rw e from; till = rw e till; fresh = rw e f; holds = rw e l;
+        tidy = w .tested .tidy;
+        headers = w .tested .headers;
+        tinted = w .tinted;
+        starts = w .starts;
+        entry = w .tested .entry;
+        from = rw e from;
+        till = rw e till;
+        fresh = rw e f;
+        holds = rw e l;
       }
 
 module _ (h : Ground) (tints marks : List ℕ) (r s np : ℕ) (heads : List ℤ) (up down : List ℕ) (q p qq : ℕ) (m : Stopped h tints marks r s np heads up down q p qq) where

@@ -47,7 +47,9 @@ module _ (h : Ground) (tints marks : List ℕ) (r s np q : ℕ) (m : Item h tint
 
   pub next-item : (heads : List ℤ) (up down : List ℕ) → Alive h marks r np heads → Holds (taken (groundAt h r q) (rivals (groundAt h r q) q)) heads up down → Outer h tints marks r s np heads up down (q + 1)
   next-item heads up down a l = record {
-    test = m .test; from = omega (arith, m .from); till = omega (arith, m .till);
+    test = m .test;
+    from = omega (arith, m .from);
+    till = omega (arith, m .till);
     stage = subst (λ (qs : List ℕ). Stage h qs (outAt h r (q + 1))) (sym walked-more) (subst (λ (xs : List ℕ). Stage h (walked h r q ++ (q ∷ [])) xs) (sym out-more) (stage-more h tints marks r s np q m));
     alive = a;
     holds = subst (λ (G : Ground). Holds G heads up down) (after-more h (outAt h r q) (rivals (groundAt h r q) q) ∙ ap (taken h) (sym out-more)) l;
@@ -95,7 +97,8 @@ module _ (h : Ground) (tints marks : List ℕ) (r s np : ℕ) (heads : List ℤ)
           record {
             item = m .item;
             rival = rival← (groundAt h r q) (h .plan .col q) (h .plan .tint q) p (m .on) (m .col) behind (sym same-colours ∙ not-true (agree x (at tints p)) c);
-            from = w .from; till = w .till;
+            from = w .from;
+            till = w .till;
             fresh = subst (λ (xs : List ℕ). Fresh (groundTo h r q p) xs) (sym n) tt;
             alive = m .alive;
             holds = subst (λ (xs : List ℕ). Holds (taken (groundTo h r q p) xs) heads up down) (sym n) (record { heads-are = held-here .heads-are; up-are = held-here .up-are; down-are = held-here .down-are });

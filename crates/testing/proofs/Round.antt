@@ -43,7 +43,10 @@ module _ (g : Ground) (p k : ℕ) (heads : List ℤ) (up down : List ℕ) (m : H
 
       pub half-over : Half g p (at down k) heads up down
       half-over = record {
-        tidy = m .tidy; entry = m .entry; from = on-at .from; till = on-at .till;
+        tidy = m .tidy;
+        entry = m .entry;
+        from = on-at .from;
+        till = on-at .till;
         fresh = subst (λ (xs : List ℕ). Fresh g xs) same-walked (m .fresh);
         holds = subst (λ (xs : List ℕ). Holds (taken g xs) heads up down) same-walked (m .holds);
       }
@@ -78,7 +81,10 @@ module _ (g : Ground) (p k : ℕ) (heads : List ℤ) (up down : List ℕ) (m : H
       half-back =
           let e : k - 1 + 1 ≡ k = omega (arith, half-some) in
           record {
-            tidy = m .tidy; entry = m .entry; from = rw e (at-entry .from); till = rw e (at-entry .till);
+            tidy = m .tidy;
+            entry = m .entry;
+            from = rw e (at-entry .from);
+            till = rw e (at-entry .till);
             fresh = rw e (fresh-front g (walked g p k) (k ∷ []) fresh-one);
             holds = rw (e, item-is) (put-back g (walked g p k) k (m .tidy) fresh-one heads up down holds-one);
           }

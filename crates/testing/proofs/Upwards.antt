@@ -66,10 +66,13 @@ module _ (g : Ground) (tints : List ℕ) (p x s : ℕ) (heads : List ℤ) (up do
       below-half =
           let b = back-begins g (m .tidy) p below-entry in
           record {
-            tidy = after-tidy g (gatherTo rivalHere g p) (m .tidy) fresh-before; entry = below-entry; from = b .from; till = b .till;
+            tidy = after-tidy g (gatherTo rivalHere g p) (m .tidy) fresh-before;
+            entry = below-entry;
+            from = b .from;
+            till = b .till;
             fresh = subst (λ (xs : List ℕ). Fresh old xs) all-others (fresh-after g (gatherTo rivalHere g p) (others g p) fresh-both);
             holds = subst (λ (xs : List ℕ). Holds (taken old xs) heads up down) all-others
-            (subst (λ (G : Ground). Holds G heads up down) (ap (taken g) split ∙ sym (after-more g (gatherTo rivalHere g p) (others g p))) (m .holds));
+                (subst (λ (G : Ground). Holds G heads up down) (ap (taken g) split ∙ sym (after-more g (gatherTo rivalHere g p) (others g p))) (m .holds));
           }
 
       pub clash-fresh : Fresh g (gatherTo (rivalAt g (g .plan .col p) x) g p)
@@ -109,7 +112,9 @@ module _ (g : Ground) (tints : List ℕ) (p x s : ℕ) (t : Tidy g) (o : g .on p
 
   pub step-up : Tinted (g .plan) tints → s ≡ start (g .plan) → Below g tints (at up p) x s heads up down
   step-up w q = record {
-    tidy = t; tinted = w; starts = q;
+    tidy = t;
+    tinted = w;
+    starts = q;
     on = rw (l .up-are) (up-on g t (g .plan .col p) x above now-tidy (column-same g t (g .plan .col p) x p) p o refl);
     fresh = subst (λ (xs : List ℕ). Fresh g xs) same-list f;
     holds = subst (λ (xs : List ℕ). Holds (taken g xs) heads up down) same-list l;
@@ -148,7 +153,10 @@ module _ (g : Ground) (tints : List ℕ) (i x s : ℕ) (t : Tidy g) (head-of : H
 
   pub from-header : Tinted (g .plan) tints → s ≡ start (g .plan) → Below g tints (at up i) x s heads up down
   from-header w q = record {
-    tidy = t; tinted = w; starts = q; on = lowest-on;
+    tidy = t;
+    tinted = w;
+    starts = q;
+    on = lowest-on;
     fresh = subst (λ (xs : List ℕ). Fresh g xs) whole-column f;
     holds = subst (λ (xs : List ℕ). Holds (taken g xs) heads up down) whole-column l;
   }

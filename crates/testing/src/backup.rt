@@ -9,7 +9,15 @@ use links::column::link;
 use links::head::item_at;
 
 // Undoes the test of r's option, item by item, from node q backwards round to r.
-pub fn backup(heads: &mut [i32], up: &mut [u32], down: &mut [u32], tints: &[u32], q: usize, r: usize, start: usize)
+pub fn backup(
+    heads: &mut [i32],
+    up: &mut [u32],
+    down: &mut [u32],
+    tints: &[u32],
+    q: usize,
+    r: usize,
+    start: usize,
+)
     requires { ⌜ ((h : Ground) × Behind h (now tints) q r start (now heads) (now up) (now down)) ⌝ }
     ensures { λ z. ⌜ ((h : Ground) → Behind h (now (tints .entry)) q r start (now (heads .entry)) (now (up .entry)) (now (down .entry))
         → Holds h (now (heads .exit)) (now (up .exit)) (now (down .exit))) ⌝ }

@@ -12,13 +12,31 @@ use crate::unhide_entries::unhide_entries;
 use links::column::link;
 
 // Is the option of r blocked? The lists are afterwards as before.
-pub fn blocked(heads: &mut [i32], up: &mut [u32], down: &mut [u32], tints: &[u32], marks: &[u32], r: usize, start: usize, np: usize) -> bool
+pub fn blocked(
+    heads: &mut [i32],
+    up: &mut [u32],
+    down: &mut [u32],
+    tints: &[u32],
+    marks: &[u32],
+    r: usize,
+    start: usize,
+    np: usize,
+) -> bool
     requires { ⌜ ((h : Ground) × Test h (now tints) (now marks) r start np × Holds h (now heads) (now up) (now down)) ⌝ }
     ensures same { λ z. ⌜ (now (heads .exit) ≡ now (heads .entry)) × (now (up .exit) ≡ now (up .entry)) × (now (down .exit) ≡ now (down .entry)) ⌝ }
     ensures answer { λ z. ⌜ ((h : Ground) → Test h (now (tints .entry)) (now (marks .entry)) r start np → Holds h (now (heads .entry)) (now (up .entry)) (now (down .entry))
         → z ≡ nodeBlocked h r np) ⌝ }
 {
-    let place = hide_entries(&mut *heads, &mut *up, &mut *down, tints, marks, r, start, np);
+    let place = hide_entries(
+        &mut *heads,
+        &mut *up,
+        &mut *down,
+        tints,
+        marks,
+        r,
+        start,
+        np,
+    );
     let q = place.q;
     if q == r {
         backup(&mut *heads, &mut *up, &mut *down, tints, r - 1, r, start);

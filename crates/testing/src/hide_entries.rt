@@ -22,7 +22,16 @@ pub struct Place {
 
 // Tests the option of r: items of the option outside, rival options in the item's column and their entries inside. Breaks off at the first
 // entry whose taking would empty a primary item that r does not hold, before it is taken; the place is kept for undoing.
-pub fn hide_entries(heads: &mut [i32], up: &mut [u32], down: &mut [u32], tints: &[u32], marks: &[u32], r: usize, start: usize, np: usize) -> Place
+pub fn hide_entries(
+    heads: &mut [i32],
+    up: &mut [u32],
+    down: &mut [u32],
+    tints: &[u32],
+    marks: &[u32],
+    r: usize,
+    start: usize,
+    np: usize,
+) -> Place
     requires { ⌜ ((h : Ground) × Test h (now tints) (now marks) r start np × Holds h (now heads) (now up) (now down)) ⌝ }
     ensures { λ z. ⌜ ((h : Ground) → Test h (now (tints .entry)) (now (marks .entry)) r start np → Holds h (now (heads .entry)) (now (up .entry)) (now (down .entry))
         → (z .q ≡ r → Outer h (now (tints .entry)) (now (marks .entry)) r start np (now (heads .exit)) (now (up .exit)) (now (down .exit)) r)

@@ -9,7 +9,15 @@ use crate::unhide_entries::unhide_entries;
 use links::column::link;
 
 // Puts back the other entries of every option that clashes with colour x, from node p upwards in its column.
-pub fn pass_2(heads: &mut [i32], up: &mut [u32], down: &mut [u32], tints: &[u32], p: usize, x: u32, start: usize)
+pub fn pass_2(
+    heads: &mut [i32],
+    up: &mut [u32],
+    down: &mut [u32],
+    tints: &[u32],
+    p: usize,
+    x: u32,
+    start: usize,
+)
     requires { ⌜ ((g : Ground) × Below g (now tints) p x start (now heads) (now up) (now down)) ⌝ }
     ensures { λ r. ⌜ ((g : Ground) → Below g (now (tints .entry)) p x start (now (heads .entry)) (now (up .entry)) (now (down .entry))
         → Holds g (now (heads .exit)) (now (up .exit)) (now (down .exit))) ⌝ }

@@ -24,39 +24,39 @@ loop-holds : tie.Need-loop-holds Inv-loop μ-loop
 loop-holds c = (refl, refl, refl, refl, refl, λ g i s w. rw (c .link .ensures) (find-begin s w))
 
 test-at-requires : tie.Need-test-at-requires Inv-loop μ-loop
-test-at-requires c κs = 
+test-at-requires c κs =
     let a = c .before .before .before .before .before .before .before .before .before .before .before .before .before .pre in
     let l = c .before .before .before .before .before .before .loop in
     let p = l .inv .5 (a .0) (a .1) (a .2) (a .3) in
     (a .0, a .1, rw (l .inv .0, l .inv .1, l .inv .2) (find-trying (a .2) (a .3) p (c .before .before .before .before .before .loop-test .taken)))
 
 link-requires-2 : tie.Need-link-requires-2 Inv-loop μ-loop
-link-requires-2 c κs = 
+link-requires-2 c κs =
     let a = c .before .before .before .before .before .before .before .before .before .before .before .before .before .before .before .before .before .before .before .before .before .before .before .before .pre in
     let l = c .before .before .before .before .before .before .before .before .before .before .before .before .before .before .before .before .before .loop in
     let p = l .inv .5 (a .0) (a .1) (a .2) (a .3) in
     rw (c .before .before .before .before .before .before .before .before .before .before .test-at .ensures .0 .2, l .inv .2) (find-down (a .2) (a .3) p)
 
 loop-less : tie.Need-loop-less Inv-loop μ-loop
-loop-less c = 
+loop-less c =
     let a = c .before .before .before .before .before .before .before .before .before .before .before .before .before .before .before .before .before .before .before .before .before .before .before .before .before .pre in
     let l = c .before .before .before .before .before .before .before .before .before .before .before .before .before .before .before .before .before .before .loop in
     let p = l .inv .5 (a .0) (a .1) (a .2) (a .3) in
     rw (c .link2 .ensures, c .before .before .before .before .before .before .before .before .before .before .before .test-at .ensures .0 .2, l .inv .2) (find-less (a .2) (a .3) p (c .before .before .before .before .before .before .before .before .before .before .before .before .before .before .before .before .before .loop-test .taken))
 
 loop-again : tie.Need-loop-again Inv-loop μ-loop
-loop-again c = 
+loop-again c =
     let l = c .before .before .before .before .before .before .before .before .before .before .before .before .before .before .before .before .before .before .loop in
-    let t = c .before .before .before .before .before .before .before .before .before .before .before .test-at in
-    ( t .ensures .0 .0 ∙ l .inv .0
-    , t .ensures .0 .1 ∙ l .inv .1
-    , t .ensures .0 .2 ∙ l .inv .2
-    , t .kept .1 .1 .1 .0 ∙ l .inv .3
-    , t .kept .1 .1 .1 .1 .0 ∙ l .inv .4
-    , λ g i s w.
-    let p = l .inv .5 g i s w in
-    rw (c .link2 .ensures, t .ensures .0 .2, l .inv .2)
-    (find-next s w p (c .before .before .before .before .before .before .before .before .before .before .before .before .before .before .before .before .before .loop-test .taken) (t .ensures .1 g i (rw (l .inv .0, l .inv .1, l .inv .2) (find-trying s w p (c .before .before .before .before .before .before .before .before .before .before .before .before .before .before .before .before .before .loop-test .taken)))))
+    let t = c .before .before .before .before .before .before .before .before .before .before .before .test-at in (
+      t .ensures .0 .0 ∙ l .inv .0,
+      t .ensures .0 .1 ∙ l .inv .1,
+      t .ensures .0 .2 ∙ l .inv .2,
+      t .kept .1 .1 .1 .0 ∙ l .inv .3,
+      t .kept .1 .1 .1 .1 .0 ∙ l .inv .4,
+      λ g i s w.
+          let p = l .inv .5 g i s w in
+          rw (c .link2 .ensures, t .ensures .0 .2, l .inv .2)
+          (find-next s w p (c .before .before .before .before .before .before .before .before .before .before .before .before .before .before .before .before .before .loop-test .taken) (t .ensures .1 g i (rw (l .inv .0, l .inv .1, l .inv .2) (find-trying s w p (c .before .before .before .before .before .before .before .before .before .before .before .before .before .before .before .before .before .loop-test .taken))))),
     )
 
 same-length : tie.Need-same-length Inv-loop μ-loop

@@ -24,7 +24,7 @@ loop-holds : tie.Need-loop-holds Inv-loop μ-loop
 loop-holds c = (refl, refl, refl, λ g i s. spare-begin s)
 
 really-delete-option-requires : tie.Need-really-delete-option-requires Inv-loop μ-loop
-really-delete-option-requires c κs = 
+really-delete-option-requires c κs =
     let s = c .before .before .before .before .before .before .before .before in
     let g = s .pre .0 in
     let i = s .pre .1 in
@@ -42,13 +42,13 @@ same-length-3 : tie.Need-same-length-3 Inv-loop μ-loop
 same-length-3 c = c .before .before .before .before .before .before .really-delete-option .kept .1 .1 .0 ∙ c .before .before .before .before .before .before .before .before .before .before .before .loop .inv .2
 
 returns : tie.Need-returns Inv-loop μ-loop
-returns c = 
+returns c =
     λ g i t.
     let d = c .before .before .before .before .before .before .before .before .before .before .before .loop .inv .3 g i t in
     spare-stop t d (c .before .before .before .before .before .before .before .before .before .before .loop-test .taken) (c .before .before .before .before .before .before .really-delete-option .ensures (after g (deletes g (d .done))) (spare-deleting t d (c .before .before .before .before .before .before .before .before .before .before .loop-test .taken)) (spare-within t d (c .before .before .before .before .before .before .before .before .before .before .loop-test .taken))) (c .if1 .taken)
 
 lead-requires : tie.Need-lead-requires Inv-loop μ-loop
-lead-requires c κs = 
+lead-requires c κs =
     let s = c .before .before .before .before .before .before .before .before .before .before .before .before .before .before .before .before .before in
     let g = s .pre .0 in
     let i = s .pre .1 in
@@ -58,7 +58,7 @@ lead-requires c κs =
     (after g (deletes g (d .done ++ (r ∷ []))), spare-led t d (c .before .before .before .before .before .before .before .before .before .before .before .before .loop-test .taken) (c .before .before .before .before .before .before .before .before .really-delete-option .ensures (after g (deletes g (d .done))) (spare-deleting t d (c .before .before .before .before .before .before .before .before .before .before .before .before .loop-test .taken)) (spare-within t d (c .before .before .before .before .before .before .before .before .before .before .before .before .loop-test .taken))) (c .before .before .if1 .left))
 
 link-requires : tie.Need-link-requires Inv-loop μ-loop
-link-requires c κs = 
+link-requires c κs =
     let s = c .before .before .before .before .before .before .before .before .before .before .before .before .before .before .before .before .before .before in
     let g = s .pre .0 in
     let i = s .pre .1 in
@@ -67,7 +67,7 @@ link-requires c κs =
     spare-in t d (c .before .before .before .before .before .before .before .before .before .before .before .before .before .loop-test .taken) (c .before .before .before .before .before .before .before .before .before .really-delete-option .ensures (after g (deletes g (d .done))) (spare-deleting t d (c .before .before .before .before .before .before .before .before .before .before .before .before .before .loop-test .taken)) (spare-within t d (c .before .before .before .before .before .before .before .before .before .before .before .before .before .loop-test .taken))) (c .before .before .before .if1 .left) (c .lead .ensures (after g (deletes g (d .done ++ (c .before .before .before .before .before .before .before .before .before .before .before .before .before .before .loop .r ∷ [])))) (spare-led t d (c .before .before .before .before .before .before .before .before .before .before .before .before .before .loop-test .taken) (c .before .before .before .before .before .before .before .before .before .really-delete-option .ensures (after g (deletes g (d .done))) (spare-deleting t d (c .before .before .before .before .before .before .before .before .before .before .before .before .before .loop-test .taken)) (spare-within t d (c .before .before .before .before .before .before .before .before .before .before .before .before .before .loop-test .taken))) (c .before .before .before .if1 .left)))
 
 loop-less : tie.Need-loop-less Inv-loop μ-loop
-loop-less c = 
+loop-less c =
     let s = c .before .before .before .before .before .before .before .before .before .before .before .before .before .before .before .before .before .before .before in
     let g = s .pre .0 in
     let i = s .pre .1 in
@@ -76,14 +76,14 @@ loop-less c =
     rw (c .link .ensures) (spare-lower t d (c .before .before .before .before .before .before .before .before .before .before .before .before .before .before .loop-test .taken) (c .before .before .before .before .before .before .before .before .before .before .really-delete-option .ensures (after g (deletes g (d .done))) (spare-deleting t d (c .before .before .before .before .before .before .before .before .before .before .before .before .before .before .loop-test .taken)) (spare-within t d (c .before .before .before .before .before .before .before .before .before .before .before .before .before .before .loop-test .taken))) (c .before .before .before .before .if1 .left) (c .before .lead .ensures (after g (deletes g (d .done ++ (c .before .before .before .before .before .before .before .before .before .before .before .before .before .before .before .loop .r ∷ [])))) (spare-led t d (c .before .before .before .before .before .before .before .before .before .before .before .before .before .before .loop-test .taken) (c .before .before .before .before .before .before .before .before .before .before .really-delete-option .ensures (after g (deletes g (d .done))) (spare-deleting t d (c .before .before .before .before .before .before .before .before .before .before .before .before .before .before .loop-test .taken)) (spare-within t d (c .before .before .before .before .before .before .before .before .before .before .before .before .before .before .loop-test .taken))) (c .before .before .before .before .if1 .left))))
 
 loop-again : tie.Need-loop-again Inv-loop μ-loop
-loop-again c = 
-    ( c .before .before .before .before .before .before .before .before .before .before .really-delete-option .kept .0 ∙ c .before .before .before .before .before .before .before .before .before .before .before .before .before .before .before .loop .inv .0
-    , c .before .before .before .before .before .before .before .before .before .before .really-delete-option .kept .1 .0 ∙ c .before .before .before .before .before .before .before .before .before .before .before .before .before .before .before .loop .inv .1
-    , c .before .before .before .before .before .before .before .before .before .before .really-delete-option .kept .1 .1 .0 ∙ c .before .before .before .before .before .before .before .before .before .before .before .before .before .before .before .loop .inv .2
-    , λ g i t.
-    let d = c .before .before .before .before .before .before .before .before .before .before .before .before .before .before .before .loop .inv .3 g i t in
-    rw (c .link .ensures) (spare-next t d (c .before .before .before .before .before .before .before .before .before .before .before .before .before .before .loop-test .taken) (c .before .before .before .before .before .before .before .before .before .before .really-delete-option .ensures (after g (deletes g (d .done))) (spare-deleting t d (c .before .before .before .before .before .before .before .before .before .before .before .before .before .before .loop-test .taken)) (spare-within t d (c .before .before .before .before .before .before .before .before .before .before .before .before .before .before .loop-test .taken))) (c .before .before .before .before .if1 .left) (c .before .lead .ensures (after g (deletes g (d .done ++ (c .before .before .before .before .before .before .before .before .before .before .before .before .before .before .before .loop .r ∷ [])))) (spare-led t d (c .before .before .before .before .before .before .before .before .before .before .before .before .before .before .loop-test .taken) (c .before .before .before .before .before .before .before .before .before .before .really-delete-option .ensures (after g (deletes g (d .done))) (spare-deleting t d (c .before .before .before .before .before .before .before .before .before .before .before .before .before .before .loop-test .taken)) (spare-within t d (c .before .before .before .before .before .before .before .before .before .before .before .before .before .before .loop-test .taken))) (c .before .before .before .before .if1 .left))))
-    )
+loop-again c = (
+  c .before .before .before .before .before .before .before .before .before .before .really-delete-option .kept .0 ∙ c .before .before .before .before .before .before .before .before .before .before .before .before .before .before .before .loop .inv .0,
+  c .before .before .before .before .before .before .before .before .before .before .really-delete-option .kept .1 .0 ∙ c .before .before .before .before .before .before .before .before .before .before .before .before .before .before .before .loop .inv .1,
+  c .before .before .before .before .before .before .before .before .before .before .really-delete-option .kept .1 .1 .0 ∙ c .before .before .before .before .before .before .before .before .before .before .before .before .before .before .before .loop .inv .2,
+  λ g i t.
+      let d = c .before .before .before .before .before .before .before .before .before .before .before .before .before .before .before .loop .inv .3 g i t in
+      rw (c .link .ensures) (spare-next t d (c .before .before .before .before .before .before .before .before .before .before .before .before .before .before .loop-test .taken) (c .before .before .before .before .before .before .before .before .before .before .really-delete-option .ensures (after g (deletes g (d .done))) (spare-deleting t d (c .before .before .before .before .before .before .before .before .before .before .before .before .before .before .loop-test .taken)) (spare-within t d (c .before .before .before .before .before .before .before .before .before .before .before .before .before .before .loop-test .taken))) (c .before .before .before .before .if1 .left) (c .before .lead .ensures (after g (deletes g (d .done ++ (c .before .before .before .before .before .before .before .before .before .before .before .before .before .before .before .loop .r ∷ [])))) (spare-led t d (c .before .before .before .before .before .before .before .before .before .before .before .before .before .before .loop-test .taken) (c .before .before .before .before .before .before .before .before .before .before .really-delete-option .ensures (after g (deletes g (d .done))) (spare-deleting t d (c .before .before .before .before .before .before .before .before .before .before .before .before .before .before .loop-test .taken)) (spare-within t d (c .before .before .before .before .before .before .before .before .before .before .before .before .before .before .loop-test .taken))) (c .before .before .before .before .if1 .left)))),
+)
 
 same-length-4 : tie.Need-same-length-4 Inv-loop μ-loop
 same-length-4 c = c .before .loop .inv .0

@@ -17,7 +17,7 @@ returns : tie.Need-returns
 returns c = ((refl, refl, refl), λ g i t. try-coloured t (λ e. c .if1 .taken (c .before .link .ensures ∙ e)))
 
 lead-requires : tie.Need-lead-requires
-lead-requires c κs = 
+lead-requires c κs =
     let s = c .before .before .before .before .before .before .before .before .before in
     let g = s .pre .0 in
     let i = s .pre .1 in
@@ -25,7 +25,7 @@ lead-requires c κs =
     (hiding g i, try-led t)
 
 item-at-requires : tie.Need-item-at-requires
-item-at-requires c κs = 
+item-at-requires c κs =
     let s = c .before .before .before .before .before .before .before .before .before .before .before in
     let g = s .pre .0 in
     let i = s .pre .1 in
@@ -45,7 +45,7 @@ returns-2 : tie.Need-returns-2
 returns-2 c = ((refl, refl, refl), λ g i t. try-later t (c .before .before .before .lead .ensures (hiding g i) (try-led t)) (λ e. c .if2 .taken (c .before .item-at .ensures ∙ e)))
 
 mark-items-requires : tie.Need-mark-items-requires
-mark-items-requires c κs = 
+mark-items-requires c κs =
     let s = c .before .before .before .before .before .before .before .before .before .before .before .before .before .before .before in
     let g = s .pre .0 in
     let i = s .pre .1 in
@@ -53,7 +53,7 @@ mark-items-requires c κs =
     (hiding g i, g .on, try-marking t (c .before .before .before .before .before .lead .ensures (hiding g i) (try-led t)) (sym (c .before .before .before .before .before .before .before .before .before .link .ensures) ∙ c .before .before .before .before .before .before .before .before .if1 .left) (sym (c .before .before .before .item-at .ensures) ∙ c .before .before .if2 .left))
 
 blocked-requires : tie.Need-blocked-requires
-blocked-requires c κs = 
+blocked-requires c κs =
     let s = c .before .before .before .before .before .before .before .before .before .before .before .before .before .before .before .before .before .before .before .before .before .before .before in
     let g = s .pre .0 in
     let i = s .pre .1 in
@@ -62,7 +62,7 @@ blocked-requires c κs =
     (hiding g i, try-test t (c .before .before .before .before .before .before .before .before .before .before .before .before .before .lead .ensures (hiding g i) (try-led t)) (sym (c .before .before .before .before .before .before .before .before .before .before .before .before .before .before .before .before .before .link .ensures) ∙ c .before .before .before .before .before .before .before .before .before .before .before .before .before .before .before .before .if1 .left) (sym (c .before .before .before .before .before .before .before .before .before .before .before .item-at .ensures) ∙ c .before .before .before .before .before .before .before .before .before .before .if2 .left) (m .0) (m .1), try-holds t)
 
 put-link-requires : tie.Need-put-link-requires
-put-link-requires c κs = 
+put-link-requires c κs =
     let s = c .before .before .before .before .before .before .before .before .before .before .before .before .before .before .before .before .before .before .before .before .before .before .before .before .before .before .before .before .before .before .before in
     let g = s .pre .0 in
     let i = s .pre .1 in
@@ -85,12 +85,12 @@ same-length-9 : tie.Need-same-length-9
 same-length-9 c = search needs
 
 returns-3 : tie.Need-returns-3
-returns-3 c = 
-    ( c .before .before .before .before .before .before .before .before .before .before .blocked .ensures .0
-    , λ g i t.
-    let m = c .before .before .before .before .before .before .before .before .before .before .before .before .before .before .before .before .before .before .mark-items .ensures (hiding g i) (g .on) (try-marking t (c .before .before .before .before .before .before .before .before .before .before .before .before .before .before .before .before .before .before .before .before .before .before .before .before .lead .ensures (hiding g i) (try-led t)) (sym (c .before .before .before .before .before .before .before .before .before .before .before .before .before .before .before .before .before .before .before .before .before .before .before .before .before .before .before .before .link .ensures) ∙ c .before .before .before .before .before .before .before .before .before .before .before .before .before .before .before .before .before .before .before .before .before .before .before .before .before .before .before .if1 .left) (sym (c .before .before .before .before .before .before .before .before .before .before .before .before .before .before .before .before .before .before .before .before .before .before .item-at .ensures) ∙ c .before .before .before .before .before .before .before .before .before .before .before .before .before .before .before .before .before .before .before .before .before .if2 .left)) in
-    rw (c .before .before .put-link .ensures) (try-yes t (c .before .before .before .before .before .before .before .before .before .before .before .before .before .before .before .before .before .before .before .before .before .before .before .before .lead .ensures (hiding g i) (try-led t)) (sym (c .before .before .before .before .before .before .before .before .before .before .before .before .before .before .before .before .before .before .before .before .before .before .before .before .before .before .before .before .link .ensures) ∙ c .before .before .before .before .before .before .before .before .before .before .before .before .before .before .before .before .before .before .before .before .before .before .before .before .before .before .before .if1 .left) (sym (c .before .before .before .before .before .before .before .before .before .before .before .before .before .before .before .before .before .before .before .before .before .before .item-at .ensures) ∙ c .before .before .before .before .before .before .before .before .before .before .before .before .before .before .before .before .before .before .before .before .before .if2 .left) (m .0) (sym (c .before .before .before .before .before .before .before .before .before .before .blocked .ensures .1 (hiding g i) (try-test t (c .before .before .before .before .before .before .before .before .before .before .before .before .before .before .before .before .before .before .before .before .before .before .before .before .lead .ensures (hiding g i) (try-led t)) (sym (c .before .before .before .before .before .before .before .before .before .before .before .before .before .before .before .before .before .before .before .before .before .before .before .before .before .before .before .before .link .ensures) ∙ c .before .before .before .before .before .before .before .before .before .before .before .before .before .before .before .before .before .before .before .before .before .before .before .before .before .before .before .if1 .left) (sym (c .before .before .before .before .before .before .before .before .before .before .before .before .before .before .before .before .before .before .before .before .before .before .item-at .ensures) ∙ c .before .before .before .before .before .before .before .before .before .before .before .before .before .before .before .before .before .before .before .before .before .if2 .left) (m .0) (m .1)) (try-holds t)) ∙ c .before .before .before .before .if3 .taken))
-    )
+returns-3 c = (
+  c .before .before .before .before .before .before .before .before .before .before .blocked .ensures .0,
+  λ g i t.
+      let m = c .before .before .before .before .before .before .before .before .before .before .before .before .before .before .before .before .before .before .mark-items .ensures (hiding g i) (g .on) (try-marking t (c .before .before .before .before .before .before .before .before .before .before .before .before .before .before .before .before .before .before .before .before .before .before .before .before .lead .ensures (hiding g i) (try-led t)) (sym (c .before .before .before .before .before .before .before .before .before .before .before .before .before .before .before .before .before .before .before .before .before .before .before .before .before .before .before .before .link .ensures) ∙ c .before .before .before .before .before .before .before .before .before .before .before .before .before .before .before .before .before .before .before .before .before .before .before .before .before .before .before .if1 .left) (sym (c .before .before .before .before .before .before .before .before .before .before .before .before .before .before .before .before .before .before .before .before .before .before .item-at .ensures) ∙ c .before .before .before .before .before .before .before .before .before .before .before .before .before .before .before .before .before .before .before .before .before .if2 .left)) in
+      rw (c .before .before .put-link .ensures) (try-yes t (c .before .before .before .before .before .before .before .before .before .before .before .before .before .before .before .before .before .before .before .before .before .before .before .before .lead .ensures (hiding g i) (try-led t)) (sym (c .before .before .before .before .before .before .before .before .before .before .before .before .before .before .before .before .before .before .before .before .before .before .before .before .before .before .before .before .link .ensures) ∙ c .before .before .before .before .before .before .before .before .before .before .before .before .before .before .before .before .before .before .before .before .before .before .before .before .before .before .before .if1 .left) (sym (c .before .before .before .before .before .before .before .before .before .before .before .before .before .before .before .before .before .before .before .before .before .before .item-at .ensures) ∙ c .before .before .before .before .before .before .before .before .before .before .before .before .before .before .before .before .before .before .before .before .before .if2 .left) (m .0) (sym (c .before .before .before .before .before .before .before .before .before .before .blocked .ensures .1 (hiding g i) (try-test t (c .before .before .before .before .before .before .before .before .before .before .before .before .before .before .before .before .before .before .before .before .before .before .before .before .lead .ensures (hiding g i) (try-led t)) (sym (c .before .before .before .before .before .before .before .before .before .before .before .before .before .before .before .before .before .before .before .before .before .before .before .before .before .before .before .before .link .ensures) ∙ c .before .before .before .before .before .before .before .before .before .before .before .before .before .before .before .before .before .before .before .before .before .before .before .before .before .before .before .if1 .left) (sym (c .before .before .before .before .before .before .before .before .before .before .before .before .before .before .before .before .before .before .before .before .before .before .item-at .ensures) ∙ c .before .before .before .before .before .before .before .before .before .before .before .before .before .before .before .before .before .before .before .before .before .if2 .left) (m .0) (m .1)) (try-holds t)) ∙ c .before .before .before .before .if3 .taken)),
+)
 
 same-length-10 : tie.Need-same-length-10
 same-length-10 c = search needs
@@ -108,12 +108,12 @@ same-length-14 : tie.Need-same-length-14
 same-length-14 c = search needs
 
 returns-4 : tie.Need-returns-4
-returns-4 c = 
-    ( c .before .before .before .before .before .before .blocked .ensures .0
-    , λ g i t.
-    let m = c .before .before .before .before .before .before .before .before .before .before .before .before .before .before .mark-items .ensures (hiding g i) (g .on) (try-marking t (c .before .before .before .before .before .before .before .before .before .before .before .before .before .before .before .before .before .before .before .before .lead .ensures (hiding g i) (try-led t)) (sym (c .before .before .before .before .before .before .before .before .before .before .before .before .before .before .before .before .before .before .before .before .before .before .before .before .link .ensures) ∙ c .before .before .before .before .before .before .before .before .before .before .before .before .before .before .before .before .before .before .before .before .before .before .before .if1 .left) (sym (c .before .before .before .before .before .before .before .before .before .before .before .before .before .before .before .before .before .before .item-at .ensures) ∙ c .before .before .before .before .before .before .before .before .before .before .before .before .before .before .before .before .before .if2 .left)) in
-    try-no t (c .before .before .before .before .before .before .before .before .before .before .before .before .before .before .before .before .before .before .before .before .lead .ensures (hiding g i) (try-led t)) (sym (c .before .before .before .before .before .before .before .before .before .before .before .before .before .before .before .before .before .before .before .before .before .before .before .before .link .ensures) ∙ c .before .before .before .before .before .before .before .before .before .before .before .before .before .before .before .before .before .before .before .before .before .before .before .if1 .left) (sym (c .before .before .before .before .before .before .before .before .before .before .before .before .before .before .before .before .before .before .item-at .ensures) ∙ c .before .before .before .before .before .before .before .before .before .before .before .before .before .before .before .before .before .if2 .left) (m .0) (sym (c .before .before .before .before .before .before .blocked .ensures .1 (hiding g i) (try-test t (c .before .before .before .before .before .before .before .before .before .before .before .before .before .before .before .before .before .before .before .before .lead .ensures (hiding g i) (try-led t)) (sym (c .before .before .before .before .before .before .before .before .before .before .before .before .before .before .before .before .before .before .before .before .before .before .before .before .link .ensures) ∙ c .before .before .before .before .before .before .before .before .before .before .before .before .before .before .before .before .before .before .before .before .before .before .before .if1 .left) (sym (c .before .before .before .before .before .before .before .before .before .before .before .before .before .before .before .before .before .before .item-at .ensures) ∙ c .before .before .before .before .before .before .before .before .before .before .before .before .before .before .before .before .before .if2 .left) (m .0) (m .1)) (try-holds t)) ∙ c .if3 .left)
-    )
+returns-4 c = (
+  c .before .before .before .before .before .before .blocked .ensures .0,
+  λ g i t.
+      let m = c .before .before .before .before .before .before .before .before .before .before .before .before .before .before .mark-items .ensures (hiding g i) (g .on) (try-marking t (c .before .before .before .before .before .before .before .before .before .before .before .before .before .before .before .before .before .before .before .before .lead .ensures (hiding g i) (try-led t)) (sym (c .before .before .before .before .before .before .before .before .before .before .before .before .before .before .before .before .before .before .before .before .before .before .before .before .link .ensures) ∙ c .before .before .before .before .before .before .before .before .before .before .before .before .before .before .before .before .before .before .before .before .before .before .before .if1 .left) (sym (c .before .before .before .before .before .before .before .before .before .before .before .before .before .before .before .before .before .before .item-at .ensures) ∙ c .before .before .before .before .before .before .before .before .before .before .before .before .before .before .before .before .before .if2 .left)) in
+      try-no t (c .before .before .before .before .before .before .before .before .before .before .before .before .before .before .before .before .before .before .before .before .lead .ensures (hiding g i) (try-led t)) (sym (c .before .before .before .before .before .before .before .before .before .before .before .before .before .before .before .before .before .before .before .before .before .before .before .before .link .ensures) ∙ c .before .before .before .before .before .before .before .before .before .before .before .before .before .before .before .before .before .before .before .before .before .before .before .if1 .left) (sym (c .before .before .before .before .before .before .before .before .before .before .before .before .before .before .before .before .before .before .item-at .ensures) ∙ c .before .before .before .before .before .before .before .before .before .before .before .before .before .before .before .before .before .if2 .left) (m .0) (sym (c .before .before .before .before .before .before .blocked .ensures .1 (hiding g i) (try-test t (c .before .before .before .before .before .before .before .before .before .before .before .before .before .before .before .before .before .before .before .before .lead .ensures (hiding g i) (try-led t)) (sym (c .before .before .before .before .before .before .before .before .before .before .before .before .before .before .before .before .before .before .before .before .before .before .before .before .link .ensures) ∙ c .before .before .before .before .before .before .before .before .before .before .before .before .before .before .before .before .before .before .before .before .before .before .before .if1 .left) (sym (c .before .before .before .before .before .before .before .before .before .before .before .before .before .before .before .before .before .before .item-at .ensures) ∙ c .before .before .before .before .before .before .before .before .before .before .before .before .before .before .before .before .before .if2 .left) (m .0) (m .1)) (try-holds t)) ∙ c .if3 .left),
+)
 
 pub test-at-spec : {M : Type 1} → statement M
 test-at-spec =

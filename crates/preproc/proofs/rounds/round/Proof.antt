@@ -25,21 +25,21 @@ loop-holds : tie.Need-loop-holds Inv-loop μ-loop
 loop-holds c = (refl, refl, refl, refl, refl, λ g s f m. round-begin _ _ s)
 
 add-item-at : tie.Need-add-item-at Inv-loop μ-loop
-add-item-at c = 
+add-item-at c =
     let a = c .before .before .before .before .before .before .before .pre in
     let l = c .before .before .loop in
     let G = l .inv .5 (a .0) (a .1) (a .2) (a .3) in
     omega (arith, round-small (a .2) (a .3) G (c .before .loop-test .taken))
 
 item-at-requires : tie.Need-item-at-requires Inv-loop μ-loop
-item-at-requires c κs = 
+item-at-requires c κs =
     let a = c .before .before .before .before .before .before .before .pre in
     let l = c .before .before .loop in
     let G = l .inv .5 (a .0) (a .1) (a .2) (a .3) in
     round-in (a .2) (a .3) G (c .before .loop-test .taken)
 
 add-i : tie.Need-add-i Inv-loop μ-loop
-add-i c = 
+add-i c =
     let a = c .before .before .before .before .before .before .before .before .before .pre in
     let l = c .before .before .before .before .loop in
     let G = l .inv .5 (a .0) (a .1) (a .2) (a .3) in
@@ -49,19 +49,19 @@ loop-less : tie.Need-loop-less Inv-loop μ-loop
 loop-less c = omega (arith, c .before .before .before .loop-test .taken)
 
 loop-again : tie.Need-loop-again Inv-loop μ-loop
-loop-again c = 
+loop-again c =
     let l = c .before .before .before .before .loop in
     (l .inv .0, l .inv .1, l .inv .2, l .inv .3, l .inv .4, λ g s f m. round-over f m (l .inv .5 g s f m) (c .before .before .before .loop-test .taken) (sym (c .before .item-at .ensures) ∙ c .if1 .taken))
 
 add-reduce-options : tie.Need-add-reduce-options Inv-loop μ-loop
-add-reduce-options c = 
+add-reduce-options c =
     let a = c .before .before .before .before .before .before .before .before .before .before .before .before .before .before .pre in
     let l = c .before .before .before .before .before .before .before .before .before .loop in
     let G = l .inv .5 (a .0) (a .1) (a .2) (a .3) in
     omega (arith, round-small (a .2) (a .3) G (c .before .before .before .before .before .before .before .before .loop-test .taken))
 
 reduce-options-requires : tie.Need-reduce-options-requires Inv-loop μ-loop
-reduce-options-requires c κs = 
+reduce-options-requires c κs =
     let a = c .before .before .before .before .before .before .before .before .before .before .before .before .before .before .pre in
     let l = c .before .before .before .before .before .before .before .before .before .loop in
     let G = l .inv .5 (a .0) (a .1) (a .2) (a .3) in
@@ -84,7 +84,7 @@ same-length-5 : tie.Need-same-length-5 Inv-loop μ-loop
 same-length-5 c = c .before .before .before .before .before .before .before .before .before .before .before .reduce-options .kept .1 .1 .1 .1 .0 ∙ c .before .before .before .before .before .before .before .before .before .before .before .before .before .before .before .before .before .before .before .before .before .loop .inv .4
 
 returns : tie.Need-returns Inv-loop μ-loop
-returns c = 
+returns c =
     let l = c .before .before .before .before .before .before .before .before .before .before .before .before .before .before .before .before .before .before .before .before .before .loop in
     λ g s f m.
     let G = l .inv .5 g s f m in
@@ -96,7 +96,7 @@ either-requires : tie.Need-either-requires Inv-loop μ-loop
 either-requires c κs = search needs
 
 add-i-2 : tie.Need-add-i-2 Inv-loop μ-loop
-add-i-2 c = 
+add-i-2 c =
     let a = c .before .before .before .before .before .before .before .before .before .before .before .before .before .before .before .before .before .before .before .before .before .before .before .before .before .before .before .pre in
     let l = c .before .before .before .before .before .before .before .before .before .before .before .before .before .before .before .before .before .before .before .before .before .before .loop in
     let G = l .inv .5 (a .0) (a .1) (a .2) (a .3) in
@@ -106,19 +106,19 @@ loop-less-2 : tie.Need-loop-less-2 Inv-loop μ-loop
 loop-less-2 c = omega (arith, c .before .before .before .before .before .before .before .before .before .before .before .before .before .before .before .before .before .before .before .before .before .loop-test .taken)
 
 loop-again-2 : tie.Need-loop-again-2 Inv-loop μ-loop
-loop-again-2 c = 
+loop-again-2 c =
     let l = c .before .before .before .before .before .before .before .before .before .before .before .before .before .before .before .before .before .before .before .before .before .before .loop in
-    let k = c .before .before .before .before .before .before .before .before .before .before .before .before .reduce-options .kept in
-    ( k .0 ∙ l .inv .0
-    , k .1 .0 ∙ l .inv .1
-    , k .1 .1 .0 ∙ l .inv .2
-    , k .1 .1 .1 .0 ∙ l .inv .3
-    , k .1 .1 .1 .1 .0 ∙ l .inv .4
-    , λ g s f m.
-    let G = l .inv .5 g s f m in
-    let t = c .before .before .before .before .before .before .before .before .before .before .before .before .before .before .before .before .before .before .before .before .before .loop-test .taken in
-    let o = c .before .before .before .before .before .before .before .before .before .before .before .before .reduce-options .ensures (G .holding .ground) (l .i) (round-standing f m G t) (round-figured f m G t) refl (round-header f m G t) in
-    rw (c .either .ensures) (round-next f m G t (λ z. c .before .before .before .before .before .before .before .before .before .before .before .before .before .before .before .before .before .before .if1 .left (c .before .before .before .before .before .before .before .before .before .before .before .before .before .before .before .before .before .before .before .item-at .ensures ∙ z)) o (c .before .if2 .left))
+    let k = c .before .before .before .before .before .before .before .before .before .before .before .before .reduce-options .kept in (
+      k .0 ∙ l .inv .0,
+      k .1 .0 ∙ l .inv .1,
+      k .1 .1 .0 ∙ l .inv .2,
+      k .1 .1 .1 .0 ∙ l .inv .3,
+      k .1 .1 .1 .1 .0 ∙ l .inv .4,
+      λ g s f m.
+          let G = l .inv .5 g s f m in
+          let t = c .before .before .before .before .before .before .before .before .before .before .before .before .before .before .before .before .before .before .before .before .before .loop-test .taken in
+          let o = c .before .before .before .before .before .before .before .before .before .before .before .before .reduce-options .ensures (G .holding .ground) (l .i) (round-standing f m G t) (round-figured f m G t) refl (round-header f m G t) in
+          rw (c .either .ensures) (round-next f m G t (λ z. c .before .before .before .before .before .before .before .before .before .before .before .before .before .before .before .before .before .before .if1 .left (c .before .before .before .before .before .before .before .before .before .before .before .before .before .before .before .before .before .before .before .item-at .ensures ∙ z)) o (c .before .if2 .left)),
     )
 
 same-length-6 : tie.Need-same-length-6 Inv-loop μ-loop

@@ -25,7 +25,7 @@ loop-holds : tie.Need-loop-holds Inv-loop μ-loop
 loop-holds c = (refl, refl, refl, refl, refl, λ g s f m. rounds-begin _ _ _ s)
 
 round-requires : tie.Need-round-requires Inv-loop μ-loop
-round-requires c κs = 
+round-requires c κs =
     let a = c .before .before .before .before .before .before .before .before .before .before .before .pre in
     let l = c .before .before .before .before .before .before .loop in
     let G = l .inv .5 (a .0) (a .1) (a .2) (a .3) in
@@ -50,7 +50,7 @@ same-length-5 : tie.Need-same-length-5 Inv-loop μ-loop
 same-length-5 c = c .before .before .before .before .before .before .before .before .before .before .before .round .kept .1 .1 .1 .1 .0 ∙ c .before .before .before .before .before .before .before .before .before .before .before .before .before .before .before .before .before .before .loop .inv .4
 
 returns : tie.Need-returns Inv-loop μ-loop
-returns c = 
+returns c =
     let l = c .before .before .before .before .before .before .before .before .before .before .before .before .before .before .before .before .before .before .loop in
     λ g s f m.
     let G = l .inv .5 g s f m in
@@ -73,7 +73,7 @@ same-length-10 : tie.Need-same-length-10 Inv-loop μ-loop
 same-length-10 c = c .before .before .before .before .before .before .before .before .before .before .before .before .before .round .kept .1 .1 .1 .1 .0 ∙ c .before .before .before .before .before .before .before .before .before .before .before .before .before .before .before .before .before .before .before .before .loop .inv .4
 
 returns-2 : tie.Need-returns-2 Inv-loop μ-loop
-returns-2 c = 
+returns-2 c =
     let l = c .before .before .before .before .before .before .before .before .before .before .before .before .before .before .before .before .before .before .before .before .loop in
     λ g s f m.
     let G = l .inv .5 g s f m in
@@ -84,18 +84,18 @@ loop-less : tie.Need-loop-less Inv-loop μ-loop
 loop-less c = omega (arith, c .before .before .before .before .before .before .before .before .before .before .before .before .before .before .before .before .before .before .before .loop-test .taken)
 
 loop-again : tie.Need-loop-again Inv-loop μ-loop
-loop-again c = 
+loop-again c =
     let l = c .before .before .before .before .before .before .before .before .before .before .before .before .before .before .before .before .before .before .before .before .loop in
-    let k = c .before .before .before .before .before .before .before .before .before .before .before .before .before .round .kept in
-    ( k .0 ∙ l .inv .0
-    , k .1 .0 ∙ l .inv .1
-    , k .1 .1 .0 ∙ l .inv .2
-    , k .1 .1 .1 .0 ∙ l .inv .3
-    , k .1 .1 .1 .1 .0 ∙ l .inv .4
-    , λ g s f m.
-    let G = l .inv .5 g s f m in
-    let o = c .before .before .before .before .before .before .before .before .before .before .before .before .before .round .ensures (G .holding .ground) (G .holding .standing) (rounds-figured f m _ G) (rounds-items f m _ G) in
-    rounds-next f m _ G (c .before .before .before .before .before .before .before .before .before .before .before .before .before .before .before .before .before .before .before .loop-test .taken) o (c .before .before .if1 .left) (not-false _ (c .if2 .left))
+    let k = c .before .before .before .before .before .before .before .before .before .before .before .before .before .round .kept in (
+      k .0 ∙ l .inv .0,
+      k .1 .0 ∙ l .inv .1,
+      k .1 .1 .0 ∙ l .inv .2,
+      k .1 .1 .1 .0 ∙ l .inv .3,
+      k .1 .1 .1 .1 .0 ∙ l .inv .4,
+      λ g s f m.
+          let G = l .inv .5 g s f m in
+          let o = c .before .before .before .before .before .before .before .before .before .before .before .before .before .round .ensures (G .holding .ground) (G .holding .standing) (rounds-figured f m _ G) (rounds-items f m _ G) in
+          rounds-next f m _ G (c .before .before .before .before .before .before .before .before .before .before .before .before .before .before .before .before .before .before .before .loop-test .taken) o (c .before .before .if1 .left) (not-false _ (c .if2 .left)),
     )
 
 same-length-11 : tie.Need-same-length-11 Inv-loop μ-loop

@@ -8,7 +8,7 @@ use Rattle.preproc.proofs.step.reduce_options.Statement.{statement}
 use Rattle.preproc.proofs.step.reduce_options.Tie as tie
 
 hide-requires : tie.Need-hide-requires
-hide-requires c κs = 
+hide-requires c κs =
     let a = c .before .before .before .before .before .before .before .before .pre in
     let g = a .0 in
     let i = a .1 in
@@ -19,7 +19,7 @@ hide-requires c κs =
     (g, step-column i s f e d, s .holds)
 
 unhide-requires : tie.Need-unhide-requires
-unhide-requires c κs = 
+unhide-requires c κs =
     let a = c .before .before .before .before .before .before .before .before .before .before .before .before .before .before .before .before .before .before .before .pre in
     let g = a .0 in
     let i = a .1 in
@@ -31,7 +31,7 @@ unhide-requires c κs =
     (g, step-column i s f e d, h .holds)
 
 remove-item-requires : tie.Need-remove-item-requires
-remove-item-requires c κs = 
+remove-item-requires c κs =
     let a = c .before .before .before .before .before .before .before .before .before .before .before .before .before .before .before .before .before .before .before .before .before .before .before .before .before .before .before .before .pre in
     let g = a .0 in
     let i = a .1 in
@@ -55,14 +55,14 @@ same-length-4 : tie.Need-same-length-4
 same-length-4 c = search needs
 
 returns : tie.Need-returns
-returns c = 
+returns c =
     λ g i s f e d.
     let h = c .before .before .before .before .before .before .before .before .before .before .before .before .before .before .before .before .before .before .before .before .before .before .before .before .before .hide .ensures g (step-column i s f e d) (s .holds) in
     let n = c .before .before .before .before .before .before .before .before .before .before .before .before .before .before .before .before .before .before .before .if1 .taken in
     step-removed i s f e d h n (c .before .before .before .before .before .remove-item .ensures g (step-removing i s f e d h n (c .before .before .before .before .before .before .before .before .before .before .before .before .before .before .unhide .ensures g (step-column i s f e d) (h .holds))))
 
 condemn-requires : tie.Need-condemn-requires
-condemn-requires c κs = 
+condemn-requires c κs =
     let a = c .before .before .before .before .before .before .before .before .before .before .before .before .before .before .before .before .before .before .before .before .pre in
     let g = a .0 in
     let i = a .1 in
@@ -75,7 +75,7 @@ condemn-requires c κs =
     (g, i, step-search i s f e d h q, step-hiding i s f e d h q)
 
 unhide-requires-2 : tie.Need-unhide-requires-2
-unhide-requires-2 c κs = 
+unhide-requires-2 c κs =
     let a = c .before .before .before .before .before .before .before .before .before .before .before .before .before .before .before .before .before .before .before .before .before .before .before .before .before .before .before .before .before .before .before .before .before .before .pre in
     let g = a .0 in
     let i = a .1 in
@@ -91,7 +91,7 @@ unhide-requires-2 c κs =
     (g, step-column-again i s f e d h q t, w)
 
 delete-condemned-requires : tie.Need-delete-condemned-requires
-delete-condemned-requires c κs = 
+delete-condemned-requires c κs =
     let a = c .before .before .before .before .before .before .before .before .before .before .before .before .before .before .before .before .before .before .before .before .before .before .before .before .before .before .before .before .before .before .before .before .before .before .before .before .before .before .before .before .before .before .before .before .pre in
     let g = a .0 in
     let i = a .1 in
@@ -123,7 +123,7 @@ same-length-9 : tie.Need-same-length-9
 same-length-9 c = search needs
 
 returns-2 : tie.Need-returns-2
-returns-2 c = 
+returns-2 c =
     λ g i s f e d.
     let h = c .before .before .before .before .before .before .before .before .before .before .before .before .before .before .before .before .before .before .before .before .before .before .before .before .before .before .before .before .before .before .before .before .before .before .before .before .before .before .before .before .before .hide .ensures g (step-column i s f e d) (s .holds) in
     let q = c .before .before .before .before .before .before .before .before .before .before .before .before .before .before .before .before .before .before .before .before .before .before .before .before .before .before .before .before .before .before .before .before .before .before .before .if1 .left in

@@ -201,8 +201,12 @@ entries-less-2 c = inner-way (c .before .before .before .before .before .before 
 -- src/hide_entries.rt:45:21
 entries-again-2 :
     tie.Need-entries-again-2 Inv-entries μ-entries Inv-rivals μ-rivals Inv-items μ-items
-entries-again-2 c = (c .before .before .before .before .before .before .before .before .fewer .kept .0 ∙ c .before .before .before .before .before .before .before .before .before .before .before .before .before .before .before .before .before .entries .inv .0, c .before .before .before .before .unlink .kept .0 ∙ c .before .before .before .before .before .before .before .before .before .before .before .before .before .before .before .before .before .entries .inv .1, c .before .before .before .before .unlink .kept .1 .0 ∙ c .before .before .before .before .before .before .before .before .before .before .before .before .before .before .before .before .before .entries .inv .2,
-    λ h m. rw (c .before .before .before .before .before .before .before .before .fewer .ensures .0, c .before .before .before .before .unlink .ensures .0, c .before .before .before .before .unlink .ensures .1, c .before .before .before .before .before .before .before .before .before .before .before .before .before .before .item-at2 .ensures) (inner-take h (c .before .before .before .before .before .before .before .before .before .before .before .before .before .before .before .before .before .before .before .before .before .before .before .before .before .before .before .before .before .before .before .before .before .before .before .args .tints .now) (c .before .before .before .before .before .before .before .before .before .before .before .before .before .before .before .before .before .before .before .before .before .before .before .before .before .before .before .before .before .before .before .before .before .before .before .args .marks .now) (c .before .before .before .before .before .before .before .before .before .before .before .before .before .before .before .before .before .before .before .before .before .before .before .before .before .before .before .before .before .before .before .before .before .before .before .args .r) (c .before .before .before .before .before .before .before .before .before .before .before .before .before .before .before .before .before .before .before .before .before .before .before .before .before .before .before .before .before .before .before .before .before .before .before .args .start) (c .before .before .before .before .before .before .before .before .before .before .before .before .before .before .before .before .before .before .before .before .before .before .before .before .before .before .before .before .before .before .before .before .before .before .before .args .np) (c .before .before .before .before .before .before .before .before .before .before .before .before .before .before .before .before .before .entries .heads) (c .before .before .before .before .before .before .before .before .before .before .before .before .before .before .before .before .before .entries .up) (c .before .before .before .before .before .before .before .before .before .before .before .before .before .before .before .before .before .entries .down) (c .before .before .before .before .before .before .before .before .before .before .before .before .before .before .before .before .before .before .before .before .before .before .before .before .before .before .before .before .before .before .items .q) (c .before .before .before .before .before .before .before .before .before .before .before .before .before .before .before .before .before .before .before .before .before .before .rivals .p) (c .before .before .before .before .before .before .before .before .before .before .before .before .before .before .before .before .before .entries .qq) (c .before .before .before .before .before .before .before .before .before .before .before .before .before .before .before .before .before .entries .inv .3 h m) (c .before .before .before .before .before .before .before .before .before .before .before .before .before .before .before .before .entries-test .taken) (some-there (c .before .before .before .before .before .before .before .before .before .before .before .before .before)) (sym (asked (c .before .before .before .before .before .before .before .before .before .before .before)) ∙ c .before .before .before .before .before .before .before .before .before .before .if4 .left)))
+entries-again-2 c = (
+  c .before .before .before .before .before .before .before .before .fewer .kept .0 ∙ c .before .before .before .before .before .before .before .before .before .before .before .before .before .before .before .before .before .entries .inv .0,
+  c .before .before .before .before .unlink .kept .0 ∙ c .before .before .before .before .before .before .before .before .before .before .before .before .before .before .before .before .before .entries .inv .1,
+  c .before .before .before .before .unlink .kept .1 .0 ∙ c .before .before .before .before .before .before .before .before .before .before .before .before .before .before .before .before .before .entries .inv .2,
+  λ h m. rw (c .before .before .before .before .before .before .before .before .fewer .ensures .0, c .before .before .before .before .unlink .ensures .0, c .before .before .before .before .unlink .ensures .1, c .before .before .before .before .before .before .before .before .before .before .before .before .before .before .item-at2 .ensures) (inner-take h (c .before .before .before .before .before .before .before .before .before .before .before .before .before .before .before .before .before .before .before .before .before .before .before .before .before .before .before .before .before .before .before .before .before .before .before .args .tints .now) (c .before .before .before .before .before .before .before .before .before .before .before .before .before .before .before .before .before .before .before .before .before .before .before .before .before .before .before .before .before .before .before .before .before .before .before .args .marks .now) (c .before .before .before .before .before .before .before .before .before .before .before .before .before .before .before .before .before .before .before .before .before .before .before .before .before .before .before .before .before .before .before .before .before .before .before .args .r) (c .before .before .before .before .before .before .before .before .before .before .before .before .before .before .before .before .before .before .before .before .before .before .before .before .before .before .before .before .before .before .before .before .before .before .before .args .start) (c .before .before .before .before .before .before .before .before .before .before .before .before .before .before .before .before .before .before .before .before .before .before .before .before .before .before .before .before .before .before .before .before .before .before .before .args .np) (c .before .before .before .before .before .before .before .before .before .before .before .before .before .before .before .before .before .entries .heads) (c .before .before .before .before .before .before .before .before .before .before .before .before .before .before .before .before .before .entries .up) (c .before .before .before .before .before .before .before .before .before .before .before .before .before .before .before .before .before .entries .down) (c .before .before .before .before .before .before .before .before .before .before .before .before .before .before .before .before .before .before .before .before .before .before .before .before .before .before .before .before .before .before .items .q) (c .before .before .before .before .before .before .before .before .before .before .before .before .before .before .before .before .before .before .before .before .before .before .rivals .p) (c .before .before .before .before .before .before .before .before .before .before .before .before .before .before .before .before .before .entries .qq) (c .before .before .before .before .before .before .before .before .before .before .before .before .before .before .before .before .before .entries .inv .3 h m) (c .before .before .before .before .before .before .before .before .before .before .before .before .before .before .before .before .entries-test .taken) (some-there (c .before .before .before .before .before .before .before .before .before .before .before .before .before)) (sym (asked (c .before .before .before .before .before .before .before .before .before .before .before)) ∙ c .before .before .before .before .before .before .before .before .before .before .if4 .left)),
+)
 
 -- src/hide_entries.rt:59:17
 link-requires-4 :

@@ -80,8 +80,13 @@ loop-less c = let w = met (c .before .before) (c .before .before .before .before
 
 -- src/pass_2.rt:18:5
 loop-again : tie.Need-loop-again Inv-loop μ-loop
-loop-again c = let z = sizes (c .before .before) in (z .0, z .1, z .2, λ g m. let w = met (c .before .before) g m in let b = c .before .before .before .before .before .before .loop .inv .3 g m in
-    rw (c .link .ensures) (step-up g (c .before .before .before .before .before .before .before .before .before .before .args .tints .now) (c .before .before .before .before .before .before .loop .k) (c .before .before .before .before .before .before .before .before .before .before .args .x) (c .before .before .before .before .before .before .before .before .before .before .args .start) (b .tidy) (b .on) (below-entry g (c .before .before .before .before .before .before .before .before .before .before .args .tints .now) (c .before .before .before .before .before .before .loop .k) (c .before .before .before .before .before .before .before .before .before .before .args .x) (c .before .before .before .before .before .before .before .before .before .before .args .start) (c .before .before .before .before .before .before .loop .heads) (c .before .before .before .before .before .before .loop .up) (c .before .before .before .before .before .before .loop .down) (c .before .before .before .before .before .before .loop .inv .3 g m) (c .before .before .before .before .before .loop-test .taken)) (w .0) (c .before .before .if1 .heads) (c .before .before .if1 .up) (c .before .before .if1 .down) (w .1) (b .tinted) (b .starts)))
+loop-again c = let z = sizes (c .before .before) in (
+  z .0,
+  z .1,
+  z .2,
+  λ g m. let w = met (c .before .before) g m in let b = c .before .before .before .before .before .before .loop .inv .3 g m in
+      rw (c .link .ensures) (step-up g (c .before .before .before .before .before .before .before .before .before .before .args .tints .now) (c .before .before .before .before .before .before .loop .k) (c .before .before .before .before .before .before .before .before .before .before .args .x) (c .before .before .before .before .before .before .before .before .before .before .args .start) (b .tidy) (b .on) (below-entry g (c .before .before .before .before .before .before .before .before .before .before .args .tints .now) (c .before .before .before .before .before .before .loop .k) (c .before .before .before .before .before .before .before .before .before .before .args .x) (c .before .before .before .before .before .before .before .before .before .before .args .start) (c .before .before .before .before .before .before .loop .heads) (c .before .before .before .before .before .before .loop .up) (c .before .before .before .before .before .before .loop .down) (c .before .before .before .before .before .before .loop .inv .3 g m) (c .before .before .before .before .before .loop-test .taken)) (w .0) (c .before .before .if1 .heads) (c .before .before .if1 .up) (c .before .before .if1 .down) (w .1) (b .tinted) (b .starts)),
+)
 
 -- src/pass_2.rt:12:1
 same-length : tie.Need-same-length Inv-loop μ-loop

@@ -12,15 +12,15 @@ use lib.IntN.{ℤ, pos, negsuc}
 use Rattle.rules.specs.Lists.{any, from}
 use Rattle.rules.proofs.Words.Tests.{T-true}
 use Rattle.rules.proofs.Words.Lists.{any←}
 use Rattle.links.specs.Head.{itemOf, zeroHead, head}
 use Rattle.links.specs.Column.{at}
 use Rattle.links.specs.Plan.{Plan, start, lo, hi, EntryOf, Planned}
 use Rattle.links.specs.Ground.{Ground, Short, Edge, Tidy}
 use Rattle.links.specs.Row.{span, full, firstLive}
 use Rattle.links.proofs.Stores.{same?}
 use Rattle.links.proofs.Plans.{entry-row, entry-till, row-mate}
 use Rattle.links.proofs.Spans.{span-none, span-In}
-use Rattle.condemning.specs.Lead.{Led, Leads}
+use Rattle.links.specs.Lead.{Led, Leads}
 
 -- The walk is at q: it has met shortened entries only.
 pub record Back (g : Ground) (r q : ℕ) : Type 0 where

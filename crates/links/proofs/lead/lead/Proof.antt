@@ -1,14 +1,14 @@
--- `condemning::lead::lead` meets its contract: at each place the walk has met shortened entries only. Assumes nothing.
+-- `links::lead::lead` meets its contract: at each place the walk has met shortened entries only. Assumes nothing.
 use Prim.Native.Nat.{ℕ, _+_}
 use native.Mathlib.Omega.{arith}
 use mathlib.Core.Path.{_≡_, refl, _∙_, ap, sym}
 use mathlib.Core.Logic.{inl, inr}
 use borrow.Author.Tests.{eqb-true, eqb-false}
 use Rattle.links.specs.Ground.{Ground}
-use Rattle.condemning.specs.Lead.{Led}
-use Rattle.condemning.proofs.Leading.{Back, led-some, led-begin, led-heads, led-down, led-more, led-step, led-done}
-use Rattle.condemning.proofs.lead.lead.Statement.{statement}
-use Rattle.condemning.proofs.lead.lead.Tie as tie
+use Rattle.links.specs.Lead.{Led}
+use Rattle.links.proofs.Leading.{Back, led-some, led-begin, led-heads, led-down, led-more, led-step, led-done}
+use Rattle.links.proofs.lead.lead.Statement.{statement}
+use Rattle.links.proofs.lead.lead.Tie as tie
 
 abbrev Inv-loop : tie.InvT-loop
 Inv-loop heads down r q₀ q = (g : Ground) → Led g r heads down → Back g r q

@@ -1,10 +1,10 @@
 // Is an entry the first live one of its option? A walk back over shortened entries.
 ghost use mathlib.Core.Path.{_≡_};
 ghost use Prim.Native.Nat.{ℕ};
 ghost use Rattle.links.specs.Ground.{Ground};
-ghost use Rattle.condemning.specs.Lead.{Led, Leads};
-use links::column::link;
-use links::head::is_zero;
+ghost use Rattle.links.specs.Lead.{Led, Leads};
+use crate::column::link;
+use crate::head::is_zero;
 
 // The nearest node before r that is no shortened entry: the boundary before the option, if r is its first live entry. A shortened entry's head is 0,
 // and its way down leads to the node before it; a boundary's never does, though the very first one has head 0 too.

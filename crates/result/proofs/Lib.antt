@@ -1,0 +1,10 @@
+pub mod Filling
+pub mod Spanning
+pub mod Keeping
+pub mod KeptColumns
+pub mod Lists
+pub mod Enough
+pub mod OneOption
+pub mod OneColumn
+pub mod LeftOptions
+pub mod AllColumns
