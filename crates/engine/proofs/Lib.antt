@@ -1,0 +1,4 @@
+pub mod Searching
+pub mod Reporting
+pub mod Clearing
+pub mod Concluding
