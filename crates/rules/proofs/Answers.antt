@@ -1,5 +1,4 @@
--- What the definitions say of the samples, of refusals and of whole calls: one outcome, its bounds, and the second run. Assumes nothing.
-pub mod Samples
+-- What the definitions say of refusals and of whole calls: one outcome, its bounds, and the second run. Assumes nothing.
 pub mod EachFacts
 pub mod Joining
 pub mod Parts
