@@ -13,7 +13,7 @@ use Rattle.rules.specs.Checks.{Room, Results, Handed}
 use Rattle.rules.specs.State.{itemsOf}
 use Rattle.rules.specs.Result.{coloursOf, primariesOf}
 use Rattle.rules.specs.Renumber.{Renumbered, compactOutcome, crateOutcome}
-use Rattle.rules.specs.Paper.{Said, saidReduced, saidInfeasible}
+use Rattle.rules.specs.Paper.{Said}
 use Rattle.rules.specs.Outcome.{Outcome, outcomeOf}
 
 -- an entry with no colour, and one with a colour: 4:1 is `coloured 4 1`
@@ -106,6 +106,10 @@ abbrev pub sample : ℕ → ℕ → ℕ → List (List Entry) → Said → Resul
 sample np ns cap options said fronts compact crate =
     record { np = np; ns = ns; cap = cap; options = options; said = said; fronts = fronts; compact = compact; crate = crate }
 
+-- the paper's number and values, in the table's order
+abbrev pub says : ℕ → List ℕ → Said
+says number values = record { number = number; values = values }
+
 abbrev pub lists : List ℕ → List ℕ → List ℕ → List ℕ → List ℕ → Results
 lists kept ends numbers items colours = record { kept = kept; ends = ends; numbers = numbers; items = items; colours = colours }
 
@@ -116,99 +120,117 @@ abbrev pub samples : List Sample
 samples =
     -- 1
     sample 1 0 1 ((plain 0 ∷ []) ∷ [])
-    (saidReduced 1 0 1 1 1 true)
+    (says 0 (1 ∷ 0 ∷ 1 ∷ 1 ∷ 1 ∷ 1 ∷ []))
     (lists (0 ∷ []) (1 ∷ []) (0 ∷ []) (0 ∷ []) (0 ∷ [])) (0 ∷ []) (0 ∷ [])
     -- 2, and with cap 1
     ∷ sample 2 0 2 ((plain 0 ∷ plain 1 ∷ []) ∷ (plain 1 ∷ []) ∷ [])
-    (saidReduced 1 0 1 1 2 true)
+    (says 0 (1 ∷ 0 ∷ 1 ∷ 1 ∷ 2 ∷ 1 ∷ []))
     (lists (0 ∷ []) (1 ∷ []) (0 ∷ []) (0 ∷ []) (0 ∷ [])) (0 ∷ []) (0 ∷ [])
     ∷ sample 2 0 1 ((plain 0 ∷ plain 1 ∷ []) ∷ (plain 1 ∷ []) ∷ [])
-    (saidReduced 1 0 1 1 1 false)
+    (says 0 (1 ∷ 0 ∷ 1 ∷ 1 ∷ 1 ∷ 0 ∷ []))
     (lists (0 ∷ []) (1 ∷ []) (0 ∷ []) (0 ∷ []) (0 ∷ [])) (0 ∷ []) (0 ∷ [])
     -- 3, and with cap 0
     ∷ sample 3 0 1 ((plain 0 ∷ plain 1 ∷ []) ∷ (plain 0 ∷ plain 2 ∷ []) ∷ (plain 1 ∷ plain 2 ∷ []) ∷ [])
-    (saidInfeasible 0 3 1)
+    (says 1 (0 ∷ 3 ∷ 1 ∷ []))
     (nothing) [] []
     ∷ sample 3 0 0 ((plain 0 ∷ plain 1 ∷ []) ∷ (plain 0 ∷ plain 2 ∷ []) ∷ (plain 1 ∷ plain 2 ∷ []) ∷ [])
-    (saidReduced 3 0 3 6 0 false)
+    (says 0 (3 ∷ 0 ∷ 3 ∷ 6 ∷ 0 ∷ 0 ∷ []))
     (lists (0 ∷ 1 ∷ 2 ∷ []) (2 ∷ 4 ∷ 6 ∷ []) (0 ∷ 1 ∷ 2 ∷ []) (0 ∷ 1 ∷ 0 ∷ 2 ∷ 1 ∷ 2 ∷ []) (0 ∷ 0 ∷ 0 ∷ 0 ∷ 0 ∷ 0 ∷ [])) (0 ∷ 1 ∷ 0 ∷ 2 ∷ 1 ∷ 2 ∷ []) (0 ∷ 1 ∷ 0 ∷ 2 ∷ 1 ∷ 2 ∷ [])
     -- 4
     ∷ sample 3 0 1 ((plain 0 ∷ plain 1 ∷ []) ∷ (plain 0 ∷ plain 2 ∷ []) ∷ [])
-    (saidInfeasible 1 2 1)
+    (says 1 (1 ∷ 2 ∷ 1 ∷ []))
     (nothing) [] []
     -- 5
     ∷ sample 2 0 0 ((plain 0 ∷ []) ∷ [])
-    (saidInfeasible 1 1 0)
+    (says 1 (1 ∷ 1 ∷ 0 ∷ []))
     (nothing) [] []
     -- 6
     ∷ sample 1 1 1 ((plain 1 ∷ []) ∷ (plain 0 ∷ []) ∷ [])
-    (saidReduced 1 0 1 1 1 true)
+    (says 0 (1 ∷ 0 ∷ 1 ∷ 1 ∷ 1 ∷ 1 ∷ []))
     (lists (0 ∷ []) (1 ∷ []) (1 ∷ []) (0 ∷ []) (0 ∷ [])) (0 ∷ []) (0 ∷ [])
     -- 7
     ∷ sample 2 1 1 ((plain 2 ∷ plain 0 ∷ []) ∷ (plain 1 ∷ coloured 2 1 ∷ []) ∷ (plain 0 ∷ []) ∷ [])
-    (saidReduced 2 1 3 5 1 true)
+    (says 0 (2 ∷ 1 ∷ 3 ∷ 5 ∷ 1 ∷ 1 ∷ []))
     (lists (0 ∷ 1 ∷ 2 ∷ []) (1 ∷ 3 ∷ 5 ∷ []) (2 ∷ 1 ∷ 0 ∷ []) (0 ∷ 1 ∷ 2 ∷ 2 ∷ 0 ∷ []) (0 ∷ 0 ∷ 1 ∷ 0 ∷ 0 ∷ [])) (0 ∷ 1 ∷ 2 ∷ 2 ∷ 0 ∷ []) (0 ∷ 1 ∷ 2 ∷ 2 ∷ 0 ∷ [])
     -- 8
     ∷ sample 3 2 2 ((plain 0 ∷ plain 1 ∷ coloured 4 1 ∷ []) ∷ (plain 2 ∷ []) ∷ [])
-    (saidReduced 2 1 2 3 2 true)
+    (says 0 (2 ∷ 1 ∷ 2 ∷ 3 ∷ 2 ∷ 1 ∷ []))
     (lists (1 ∷ 2 ∷ 4 ∷ []) (2 ∷ 3 ∷ []) (0 ∷ 1 ∷ []) (1 ∷ 4 ∷ 2 ∷ []) (0 ∷ 1 ∷ 0 ∷ [])) (0 ∷ 2 ∷ 1 ∷ []) (1 ∷ 3 ∷ 2 ∷ [])
     -- the last of several p, cyclically from the entry after c, of the highest option
     ∷ sample 3 0 1 ((plain 0 ∷ plain 2 ∷ []) ∷ (plain 2 ∷ plain 0 ∷ plain 1 ∷ []) ∷ [])
-    (saidReduced 1 0 1 1 1 false)
+    (says 0 (1 ∷ 0 ∷ 1 ∷ 1 ∷ 1 ∷ 0 ∷ []))
     (lists (1 ∷ []) (1 ∷ []) (1 ∷ []) (1 ∷ []) (0 ∷ [])) (0 ∷ []) (1 ∷ [])
     ∷ sample 3 0 1 ((plain 2 ∷ plain 0 ∷ []) ∷ (plain 0 ∷ plain 1 ∷ plain 2 ∷ []) ∷ [])
-    (saidReduced 1 0 1 1 1 false)
+    (says 0 (1 ∷ 0 ∷ 1 ∷ 1 ∷ 1 ∷ 0 ∷ []))
     (lists (1 ∷ []) (1 ∷ []) (1 ∷ []) (1 ∷ []) (0 ∷ [])) (0 ∷ []) (1 ∷ [])
     ∷ sample 3 0 1 ((plain 2 ∷ plain 0 ∷ []) ∷ (plain 1 ∷ plain 0 ∷ plain 2 ∷ []) ∷ [])
-    (saidReduced 1 0 1 1 1 false)
+    (says 0 (1 ∷ 0 ∷ 1 ∷ 1 ∷ 1 ∷ 0 ∷ []))
     (lists (2 ∷ []) (1 ∷ []) (1 ∷ []) (2 ∷ []) (0 ∷ [])) (0 ∷ []) (2 ∷ [])
     ∷ sample 3 0 1 ((plain 1 ∷ plain 2 ∷ []) ∷ (plain 1 ∷ plain 0 ∷ []) ∷ [])
-    (saidInfeasible 2 2 1)
+    (says 1 (2 ∷ 2 ∷ 1 ∷ []))
     (nothing) [] []
     -- the first emptied in cyclic order from the entry after c
     ∷ sample 4 1 2 ((plain 2 ∷ plain 3 ∷ plain 1 ∷ []) ∷ (plain 1 ∷ plain 2 ∷ []) ∷ (plain 1 ∷ plain 0 ∷ []) ∷ [])
-    (saidInfeasible 3 2 1)
+    (says 1 (3 ∷ 2 ∷ 1 ∷ []))
     (nothing) [] []
     -- an option with a coloured first item is not tested
     ∷ sample 2 1 1 ((coloured 2 1 ∷ plain 0 ∷ []) ∷ (plain 1 ∷ coloured 2 2 ∷ []) ∷ (plain 0 ∷ []) ∷ [])
-    (saidReduced 2 1 3 5 1 true)
+    (says 0 (2 ∷ 1 ∷ 3 ∷ 5 ∷ 1 ∷ 1 ∷ []))
     (lists (0 ∷ 1 ∷ 2 ∷ []) (1 ∷ 3 ∷ 5 ∷ []) (2 ∷ 1 ∷ 0 ∷ []) (0 ∷ 1 ∷ 2 ∷ 2 ∷ 0 ∷ []) (0 ∷ 0 ∷ 2 ∷ 1 ∷ 0 ∷ [])) (0 ∷ 1 ∷ 2 ∷ 2 ∷ 0 ∷ []) (0 ∷ 1 ∷ 2 ∷ 2 ∷ 0 ∷ [])
     -- coloured holders of a redundant item are deleted; an item that is held coloured is not redundant
     ∷ sample 3 1 1 ((plain 3 ∷ plain 2 ∷ plain 1 ∷ []) ∷ (coloured 3 1 ∷ plain 0 ∷ []) ∷ [])
-    (saidInfeasible 0 2 1)
+    (says 1 (0 ∷ 2 ∷ 1 ∷ []))
     (nothing) [] []
     ∷ sample 1 1 1 ((coloured 1 1 ∷ plain 0 ∷ []) ∷ [])
-    (saidReduced 1 1 1 2 1 true)
+    (says 0 (1 ∷ 1 ∷ 1 ∷ 2 ∷ 1 ∷ 1 ∷ []))
     (lists (0 ∷ 1 ∷ []) (2 ∷ []) (0 ∷ []) (1 ∷ 0 ∷ []) (1 ∷ 0 ∷ [])) (1 ∷ 0 ∷ []) (1 ∷ 0 ∷ [])
-    -- colours 0 and 0 do not agree
-    ∷ sample 2 1 2 ((plain 0 ∷ plain 2 ∷ []) ∷ (plain 1 ∷ plain 2 ∷ []) ∷ (plain 0 ∷ []) ∷ [])
-    (saidReduced 2 0 2 2 2 true)
-    (lists (0 ∷ 1 ∷ []) (1 ∷ 2 ∷ []) (2 ∷ 1 ∷ []) (0 ∷ 1 ∷ []) (0 ∷ 0 ∷ [])) (0 ∷ 1 ∷ []) (0 ∷ 1 ∷ [])
+    -- colours 0 and 0 do not agree: the first option blocks, and deleting it is all that the round does
+    ∷ sample 2 1 1 ((plain 1 ∷ plain 2 ∷ []) ∷ (plain 1 ∷ plain 0 ∷ []) ∷ (plain 2 ∷ plain 0 ∷ []) ∷ [])
+    (says 0 (2 ∷ 0 ∷ 1 ∷ 2 ∷ 1 ∷ 0 ∷ []))
+    (lists (0 ∷ 1 ∷ []) (2 ∷ []) (1 ∷ []) (1 ∷ 0 ∷ []) (0 ∷ 0 ∷ [])) (1 ∷ 0 ∷ []) (1 ∷ 0 ∷ [])
+    -- a secondary item may be left in no option by a removal
+    ∷ sample 2 1 1 ((plain 2 ∷ plain 1 ∷ []) ∷ (plain 0 ∷ plain 1 ∷ []) ∷ [])
+    (says 0 (1 ∷ 0 ∷ 1 ∷ 1 ∷ 1 ∷ 0 ∷ []))
+    (lists (0 ∷ []) (1 ∷ []) (1 ∷ []) (0 ∷ []) (0 ∷ [])) (0 ∷ []) (0 ∷ [])
+    -- entries leave cyclically from the one after c; an item emptied in the second round; the lowest item that is in no option
+    ∷ sample 4 0 1 ((plain 1 ∷ plain 0 ∷ plain 3 ∷ []) ∷ (plain 2 ∷ plain 0 ∷ []) ∷ [])
+    (says 1 (3 ∷ 2 ∷ 1 ∷ []))
+    (nothing) [] []
+    ∷ sample 3 1 2 ((plain 3 ∷ plain 2 ∷ plain 0 ∷ []) ∷ (plain 3 ∷ plain 1 ∷ plain 0 ∷ []) ∷ (plain 1 ∷ plain 2 ∷ []) ∷ [])
+    (says 1 (2 ∷ 2 ∷ 2 ∷ []))
+    (nothing) [] []
+    ∷ sample 3 0 0 ((plain 0 ∷ []) ∷ [])
+    (says 1 (1 ∷ 1 ∷ 0 ∷ []))
+    (nothing) [] []
+    -- the crate's numbers lower every secondary item by the same
+    ∷ sample 1 4 1 ((plain 0 ∷ coloured 2 1 ∷ coloured 4 1 ∷ []) ∷ [])
+    (says 0 (1 ∷ 2 ∷ 1 ∷ 3 ∷ 1 ∷ 1 ∷ []))
+    (lists (0 ∷ 2 ∷ 4 ∷ []) (3 ∷ []) (0 ∷ []) (0 ∷ 2 ∷ 4 ∷ []) (0 ∷ 1 ∷ 1 ∷ [])) (0 ∷ 1 ∷ 2 ∷ []) (0 ∷ 1 ∷ 3 ∷ [])
     -- one equal colour above 0 is no clash
     ∷ sample 2 1 2 ((plain 0 ∷ coloured 2 1 ∷ []) ∷ (plain 1 ∷ coloured 2 1 ∷ []) ∷ (plain 0 ∷ []) ∷ [])
-    (saidReduced 2 1 3 5 1 true)
+    (says 0 (2 ∷ 1 ∷ 3 ∷ 5 ∷ 1 ∷ 1 ∷ []))
     (lists (0 ∷ 1 ∷ 2 ∷ []) (2 ∷ 3 ∷ 5 ∷ []) (0 ∷ 2 ∷ 1 ∷ []) (0 ∷ 2 ∷ 0 ∷ 1 ∷ 2 ∷ []) (0 ∷ 1 ∷ 0 ∷ 0 ∷ 1 ∷ [])) (0 ∷ 2 ∷ 0 ∷ 1 ∷ 2 ∷ []) (0 ∷ 2 ∷ 0 ∷ 1 ∷ 2 ∷ [])
     -- a rival through another item than c, where it holds c coloured
     ∷ sample 2 1 1 ((plain 2 ∷ plain 0 ∷ []) ∷ (plain 0 ∷ plain 1 ∷ coloured 2 1 ∷ []) ∷ (plain 2 ∷ plain 1 ∷ []) ∷ [])
-    (saidReduced 2 1 1 3 1 false)
+    (says 0 (2 ∷ 1 ∷ 1 ∷ 3 ∷ 1 ∷ 0 ∷ []))
     (lists (0 ∷ 1 ∷ 2 ∷ []) (3 ∷ []) (1 ∷ []) (0 ∷ 1 ∷ 2 ∷ []) (0 ∷ 0 ∷ 1 ∷ [])) (0 ∷ 1 ∷ 2 ∷ []) (0 ∷ 1 ∷ 2 ∷ [])
     -- the highest option that holds c need not hold a candidate
     ∷ sample 2 0 1 ((plain 0 ∷ plain 1 ∷ []) ∷ (plain 0 ∷ []) ∷ [])
-    (saidReduced 1 0 1 1 1 false)
+    (says 0 (1 ∷ 0 ∷ 1 ∷ 1 ∷ 1 ∷ 0 ∷ []))
     (lists (1 ∷ []) (1 ∷ []) (0 ∷ []) (1 ∷ []) (0 ∷ [])) (0 ∷ []) (1 ∷ [])
     -- as many rounds as there are items
     ∷ sample 3 0 9 ((plain 1 ∷ plain 0 ∷ plain 2 ∷ []) ∷ (plain 1 ∷ plain 2 ∷ []) ∷ (plain 2 ∷ plain 0 ∷ []) ∷ [])
-    (saidReduced 1 0 1 1 3 true)
+    (says 0 (1 ∷ 0 ∷ 1 ∷ 1 ∷ 3 ∷ 1 ∷ []))
     (lists (1 ∷ []) (1 ∷ []) (0 ∷ []) (1 ∷ []) (0 ∷ [])) (0 ∷ []) (1 ∷ [])
     -- a cap of 0 still puts the options in order, and drops skipped options and unused secondary items
     ∷ sample 2 0 0 ((plain 1 ∷ []) ∷ (plain 0 ∷ []) ∷ [])
-    (saidReduced 2 0 2 2 0 false)
+    (says 0 (2 ∷ 0 ∷ 2 ∷ 2 ∷ 0 ∷ 0 ∷ []))
     (lists (0 ∷ 1 ∷ []) (1 ∷ 2 ∷ []) (1 ∷ 0 ∷ []) (0 ∷ 1 ∷ []) (0 ∷ 0 ∷ [])) (0 ∷ 1 ∷ []) (0 ∷ 1 ∷ [])
     ∷ sample 1 1 0 ((plain 1 ∷ []) ∷ (plain 0 ∷ []) ∷ [])
-    (saidReduced 1 0 1 1 0 false)
+    (says 0 (1 ∷ 0 ∷ 1 ∷ 1 ∷ 0 ∷ 0 ∷ []))
     (lists (0 ∷ []) (1 ∷ []) (1 ∷ []) (0 ∷ []) (0 ∷ [])) (0 ∷ []) (0 ∷ [])
     ∷ sample 1 1 0 ((plain 0 ∷ []) ∷ [])
-    (saidReduced 1 0 1 1 0 false)
+    (says 0 (1 ∷ 0 ∷ 1 ∷ 1 ∷ 0 ∷ 0 ∷ []))
     (lists (0 ∷ []) (1 ∷ []) (0 ∷ []) (0 ∷ []) (0 ∷ [])) (0 ∷ []) (0 ∷ [])
     ∷ []
 
