@@ -43,14 +43,14 @@ concludes-infeasible : (h : Handed) {x : Finding} {item cause round : ℕ} {room
 concludes-infeasible h e b = rw e (rw b refl)
 
 -- the result lists that check 18 leaves
-record Spacious (n E M : ℕ) (r : Results) : Type 0 where
+pub record Spacious (n E M : ℕ) (r : Results) : Type 0 where
   pub kept : n ≤ length (r .kept)
   pub ends : M ≤ length (r .ends)
   pub numbers : M ≤ length (r .numbers)
   pub items : E ≤ length (r .items)
   pub colours : E ≤ length (r .colours)
 
-spacious : (n E M : ℕ) (r : Results) → T (not (shortResults n E M r)) → Spacious n E M r
+pub spacious : (n E M : ℕ) (r : Results) → T (not (shortResults n E M r)) → Spacious n E M r
 unfolding shortResults
 spacious n E M r t =
     let a = ltb (length (r .kept)) n in

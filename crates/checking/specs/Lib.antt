@@ -1,0 +1,4 @@
+pub mod Checked
+pub mod Marks
+pub mod Checkable
+pub mod Lent

@@ -1,0 +1,8 @@
+-- The desk's call: its steps over plain lists. Assumes nothing.
+pub mod Tests
+pub mod HandingOver
+pub mod Solving
+pub mod Checking
+pub mod Thinning
+pub mod Reading
+pub mod OneOutcome

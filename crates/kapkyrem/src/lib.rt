@@ -1,0 +1,4 @@
+// The calls from C: plain numbers and lists, and one number back. None has a `requires`, and each says its one possible outcome.
+pub mod bytes;
+pub mod lists;
+pub mod packed;
