@@ -1,4 +1,4 @@
--- The two calls: their answers fit, and the number that each hands back is the outcome's, packed. Assumes nothing.
+-- The calls: the answers of the first two fit, and the number that each hands back is the outcome's, packed. Assumes nothing.
 use Prim.Native.Nat.{ℕ}
 use native.Mathlib.Omega.{arith}
 use mathlib.Core.Path.{_≡_, ap, _∙_}
@@ -11,7 +11,11 @@ use Rattle.rules.specs.declared.answer.Answer.{Answer}
 use Rattle.engine.specs.Call.{outcome}
 use Rattle.desk.specs.Desk.{deskFigures, Served, serving, served}
 use Rattle.kapkyrem.specs.Packed.{packedDesk, packedLists, Fits}
-use Rattle.kapkyrem.specs.Calls.{called, calledLists, calledDesk, calledBytes}
+use mathlib.Core.List.{List}
+use Rattle.rules.specs.Renumber.{Renumbered}
+use Rattle.renumbering.specs.Outcome.{refusal, refusalNumber, refusalPlace, packed, outcome as renumbered}
+use Rattle.renumbering.specs.declared.answer.Renumbering.{Renumbering}
+use Rattle.kapkyrem.specs.Calls.{called, calledLists, calledDesk, calledBytes, calledCompact, calledRenumbered}
 use Rattle.kapkyrem.proofs.Fitting.{FiguresFit, answer-fits}
 
 -- Both sets of figures leave every field its room.
@@ -37,3 +41,8 @@ module _ (ragged : Bool) (h : Handed) (bytes : Results) (a : Answer) {results : 
 
   pub bytes-called : {r : ℕ} → r ≡ packedDesk (paper a) → calledDesk r results ≡ calledBytes (served ragged h bytes)
   bytes-called k = ap (λ (n : ℕ). calledDesk n results) k ∙ ap calledBytes e
+
+-- Compact numbers
+pub compact-called : (r : Renumbering) (x : Renumbered) {out : List ℕ} {answer : ℕ} → renumbered r out ≡ x → answer ≡ packed (refusalNumber (refusal r)) (refusalPlace (refusal r))
+    → calledCompact answer out ≡ calledRenumbered x
+compact-called r x {out} e k = ap (λ (n : ℕ). calledCompact n out) k ∙ ap calledRenumbered e

@@ -1,7 +1,10 @@
 -- What a call from C comes to: the number that it hands back, and every list that was lent, as it is afterwards. Assumes nothing.
 use Prim.Native.Nat.{ℕ}
+use mathlib.Core.List.{List}
 use Rattle.rules.specs.Checks.{Room, Results}
 use Rattle.rules.specs.Outcome.{Outcome}
+use Rattle.rules.specs.Renumber.{Renumbered}
+use Rattle.renumbering.specs.Outcome.{packed}
 use Rattle.desk.specs.Desk.{Served}
 use Rattle.kapkyrem.specs.Packed.{packedDesk, packedLists}
 
@@ -28,3 +31,15 @@ calledDesk answer results = record { answer = answer; results = results }
 -- of the desk's call: what it comes to, its answer packed
 abbrev pub calledBytes : Served → CalledDesk
 calledBytes s = calledDesk (packedDesk (s .said)) (s .results)
+
+-- The compact numbers: the number, and the byte list for the outcome.
+pub record CalledCompact : Type 0 where
+  pub answer : ℕ
+  pub out : List ℕ
+
+abbrev pub calledCompact : ℕ → List ℕ → CalledCompact
+calledCompact answer out = record { answer = answer; out = out }
+
+-- 0 if done, else number + 256 x place
+abbrev pub calledRenumbered : Renumbered → CalledCompact
+calledRenumbered r = calledCompact (packed (r .number) (r .place)) (r .out)
