@@ -1,7 +1,7 @@
 /* bench times SECONDS | count | heap | list   [NAME..]
  * Puts the families (or those named) to both sides and writes a line for each problem, fields separated by tabs.
  *   times   medians of interleaved samples, SECONDS for each problem, but not less than 3 + 20 x SECONDS samples
- *   count   one call of each side, for a profiler that counts within counted_ours, counted_rust and counted_rust_keeping
+ *   count   a call of ours, one of the Rust and one of the Rust that gives no memory back, for a profiler that counts within `counted`
  *   heap    how often each side asks for memory, and for how many bytes (linked with heap.c)
  *   list    what the problems are
  * Every answer and every list of ours is compared with what the Rust gave. Ends with 1 at the first difference. */
@@ -102,16 +102,19 @@ static void write_heap(const job *j)
     printf("\t%llu\t%llu\t%llu\n", between.asked - before.asked, after.asked - between.asked, after.bytes - between.bytes);
 }
 
-/* What a profiler counts within; not inlined, so that it finds them by name. */
-#define COUNTED __attribute__((noinline)) static uint64_t
-COUNTED counted_ours(const job *j) { return call_ours(j); }
-COUNTED counted_rust(const job *j) { return call_rust(j); }
-COUNTED counted_rust_keeping(const job *j) { return call_rust_keeping(j); }
-
-/* Opening the job has called each side once before, so what is counted is a call like all that follow. */
-static void count_once(const job *j)
+/* What a profiler counts within. It is not inlined, so that it is found by its name. */
+__attribute__((noinline)) static uint64_t counted(uint64_t (*call)(const job *), const job *j)
 {
-    uint64_t wrong = (counted_ours(j) ^ j->ours) | (counted_rust(j) ^ j->rust) | (counted_rust_keeping(j) ^ j->rust);
+    volatile uint64_t answer = call(j);
+    return answer;
+}
+
+/* Opening the job has called each side before, so what is counted is a call like all that follow. */
+static void count_calls(const job *j)
+{
+    uint64_t wrong = counted(call_ours, j) ^ j->ours;
+    wrong |= counted(call_rust, j) ^ j->rust;
+    wrong |= counted(call_rust_keeping, j) ^ j->rust;
     drop_kept();
     if (wrong != 0)
         fail("an answer differs");
@@ -143,7 +146,7 @@ static void one_problem(const char *mode, double seconds, const family *f, int s
     else if (strcmp(mode, "heap") == 0)
         write_heap(&j);
     else if (strcmp(mode, "count") == 0)
-        count_once(&j);
+        count_calls(&j);
     else
         printf("\n");
     fflush(stdout);
