@@ -11,9 +11,9 @@ use Rattle.rules.specs.Lists.{from}
 use Rattle.rules.specs.Problem.{Entry}
 use Rattle.rules.specs.State.{State, optionAt, itemsOf}
 use Rattle.rules.specs.Promises.{distinct}
-use Rattle.rules.proofs.Words.Tests.{true-T}
-use Rattle.rules.proofs.Words.Lists.{getD-In, keep-all}
-use Rattle.rules.proofs.Words.Places.{getD-inj}
+use Rattle.theorems.proofs.Words.Tests.{true-T}
+use Rattle.theorems.proofs.Words.Lists.{getD-In, keep-all}
+use Rattle.theorems.proofs.Words.Places.{getD-inj}
 use Rattle.links.specs.Plan.{EntryOf, Header, Planned}
 use Rattle.links.specs.Row.{span}
 use Rattle.links.specs.Shown.{entryAt, rowOf, shownRow, shown}

@@ -5,7 +5,7 @@ use mathlib.Core.Path.{_≡_, refl, _∙_, ap, sym, fun-ext}
 use mathlib.Core.Logic.{_⊎_, inl, inr, ⊎-elim, _≢_}
 use mathlib.Core.Bool.{Bool, true, false, _&&_}
 use lib.Dec.{T, leb, ltb, leb→le, le→leb, ltb→lt, lt→ltb}
-use Rattle.rules.proofs.Words.Tests.{T-true, true-T, T-and, and-T, T-or, or-left, or-right, T-same}
+use Rattle.theorems.proofs.Words.Tests.{T-true, true-T, T-and, and-T, T-or, or-left, or-right, T-same}
 use Rattle.links.specs.Column.{without}
 use Rattle.links.specs.Plan.{Plan, start, lo, hi, EntryOf, Header, Planned}
 use Rattle.links.proofs.Rings.{without→, without←}

@@ -16,9 +16,9 @@ use Rattle.rules.specs.Problem.{Entry, Problem, Figures, entriesOf, cut, proble
 use Rattle.rules.specs.State.{optionAt, holdsPrimary, itemsOf}
 use Rattle.rules.specs.Rounds.{start as starting}
 use Rattle.rules.specs.Promises.{distinct}
-use Rattle.rules.proofs.Words.Lists.{In-map}
-use Rattle.rules.proofs.Checks.Cutting.{length-entriesOf, length-cut, check16→, cut-whole}
-use Rattle.rules.proofs.Steps.Start.{startOf, start-at}
+use Rattle.theorems.proofs.Words.Lists.{In-map}
+use Rattle.theorems.proofs.Checks.Cutting.{length-entriesOf, length-cut, check16→, cut-whole}
+use Rattle.theorems.proofs.Steps.Start.{startOf, start-at}
 use Rattle.links.specs.Column.{at}
 use Rattle.links.specs.Plan.{Plan, start, EntryOf, Planned}
 use Rattle.links.proofs.Stores.{less?}

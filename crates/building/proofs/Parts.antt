@@ -13,8 +13,8 @@ use lib.Seq.{slice, slice-empty, slice-cons, getD-take, getD-drop}
 use Rattle.rules.specs.Lists.{any}
 use Rattle.rules.specs.Problem.{Entry, entriesOf, cut}
 use Rattle.rules.specs.State.{holdsPrimary}
-use Rattle.rules.proofs.Words.Lists.{any-append, any-map}
-use Rattle.rules.proofs.Checks.Cutting.{Ascend, ended, rise, slices-join}
+use Rattle.theorems.proofs.Words.Lists.{any-append, any-map}
+use Rattle.theorems.proofs.Checks.Cutting.{Ascend, ended, rise, slices-join}
 use Rattle.links.specs.Column.{at}
 use Rattle.building.specs.Build.{primaryIn}
 

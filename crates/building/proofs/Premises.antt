@@ -8,8 +8,8 @@ use lib.Dec.{T, ltb, nltb→le}
 use lib.ListN.{length}
 use Rattle.rules.specs.Problem.{Figures}
 use Rattle.rules.specs.Checks.{Room, Handed, shortRoom, refusalOf}
-use Rattle.rules.proofs.Words.Tests.{T-nor}
-use Rattle.rules.proofs.Checks.Accept.{Passed, passed, passed-accepted}
+use Rattle.theorems.proofs.Words.Tests.{T-nor}
+use Rattle.theorems.proofs.Checks.Accept.{Passed, passed, passed-accepted}
 use Rattle.building.specs.Build.{Buildable}
 
 -- the room that check 17 leaves

@@ -8,7 +8,7 @@ use Rattle.rules.specs.Checks.{Handed}
 use Rattle.rules.specs.Rounds.{reduce}
 use Rattle.rules.specs.Paper.{saidRefused}
 use Rattle.rules.specs.Outcome.{Outcome, concluded, outcomeOf}
-use Rattle.rules.proofs.Answers.OneOutcome.{refused-nothing-written, outcome-found}
+use Rattle.theorems.proofs.Answers.OneOutcome.{refused-nothing-written, outcome-found}
 use Rattle.engine.specs.Call.{outcome}
 use Rattle.checking.specs.Lent.{Lent}
 use Rattle.checking.specs.declared.room.Lengths.{Lengths}

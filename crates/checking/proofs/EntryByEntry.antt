@@ -16,9 +16,9 @@ use mir.Facts.{T-not-not}
 use Rattle.rules.specs.Lists.{mem}
 use Rattle.rules.specs.Problem.{Entry, entriesOf}
 use Rattle.rules.specs.Checks.{Refusal, refuse, checkEntry, checkOption}
-use Rattle.rules.proofs.Words.Tests.{T-dec, neqb→ne}
-use Rattle.rules.proofs.Words.Choices.{orElse-none}
-use Rattle.rules.proofs.Checks.Accept.{refuse-none}
+use Rattle.theorems.proofs.Words.Tests.{T-dec, neqb→ne}
+use Rattle.theorems.proofs.Words.Choices.{orElse-none}
+use Rattle.theorems.proofs.Checks.Accept.{refuse-none}
 use Rattle.checking.specs.Marks.{Marked, Below}
 
 abbrev entry : ℕ → ℕ → Entry

@@ -8,7 +8,7 @@ use mathlib.Core.Option.{none}
 use Rattle.rules.specs.Problem.{Entry, Figures, entriesOf, cut}
 use Rattle.rules.specs.Checks.{Handed, checkOptions, refusalOf}
 use Rattle.rules.specs.SecondRun.{Roomy}
-use Rattle.rules.proofs.Checks.Accept.{Passes, Passed, options→, options←, passed, not-refused}
+use Rattle.theorems.proofs.Checks.Accept.{Passes, Passed, options→, options←, passed, not-refused}
 
 -- Each figure is at most the other's.
 pub record Within (f g : Figures) : Type 0 where

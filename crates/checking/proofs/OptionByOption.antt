@@ -10,7 +10,7 @@ use lib.ListN.{length, getD, replicate, drop, drop-of-length-le}
 use lib.Seq.{slice, drop-cons, length-slice}
 use Rattle.rules.specs.Problem.{Entry, entriesOf, cut}
 use Rattle.rules.specs.Checks.{Refusal, checkOption, checkOptions}
-use Rattle.rules.proofs.Checks.Cutting.{Ascend, rise, length-entriesOf, check16→}
+use Rattle.theorems.proofs.Checks.Cutting.{Ascend, rise, length-entriesOf, check16→}
 use Rattle.checking.specs.Marks.{Below}
 use Rattle.checking.specs.Checkable.{Checkable}
 

@@ -15,9 +15,9 @@ use Rattle.rules.specs.Lists.{orElse, firstOf}
 use Rattle.rules.specs.Problem.{Figures, entriesOf, cut}
 use Rattle.rules.specs.Checks.{Refusal, Handed, refuse, check16, shortRoom, shortResults, checkOptions, sizeChecks, refusalOf}
 use Rattle.rules.specs.Sizing.{sizedAs, sizing}
-use Rattle.rules.proofs.Words.Tests.{T-nor}
-use Rattle.rules.proofs.Words.Choices.{orElse-assoc, orElse-nothing, orElse-none}
-use Rattle.rules.proofs.Checks.Accept.{refuse-none}
+use Rattle.theorems.proofs.Words.Tests.{T-nor}
+use Rattle.theorems.proofs.Words.Choices.{orElse-assoc, orElse-nothing, orElse-none}
+use Rattle.theorems.proofs.Checks.Accept.{refuse-none}
 
 first-append : (xs ys : List (Option Refusal)) → firstOf (xs ++ ys) ≡ orElse (firstOf xs) (firstOf ys)
 first-append [] ys = refl

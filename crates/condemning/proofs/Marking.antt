@@ -10,8 +10,8 @@ use lib.ListN.{length, set, length-set}
 use lib.Seq.{getD-set-same, getD-set-other}
 use lib.IntN.{ℤ, pos, negsuc}
 use Rattle.rules.specs.Lists.{any}
-use Rattle.rules.proofs.Words.Tests.{T-true}
-use Rattle.rules.proofs.Words.Lists.{any←}
+use Rattle.theorems.proofs.Words.Tests.{T-true}
+use Rattle.theorems.proofs.Words.Lists.{any←}
 use Rattle.links.specs.Head.{itemOf, belowZero, head}
 use Rattle.links.specs.Column.{at}
 use Rattle.links.specs.Plan.{Plan, start, lo, hi, EntryOf, Header, Planned}

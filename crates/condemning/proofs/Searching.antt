@@ -10,8 +10,8 @@ use lib.Dec.{T, leb, eqb, eqb→eq}
 use lib.ListN.{length, set}
 use lib.IntN.{ℤ, pos}
 use Rattle.rules.specs.Lists.{any}
-use Rattle.rules.proofs.Words.Tests.{T-true, T-and}
-use Rattle.rules.proofs.Words.Lists.{any-cong}
+use Rattle.theorems.proofs.Words.Tests.{T-true, T-and}
+use Rattle.theorems.proofs.Words.Lists.{any-cong}
 use Rattle.links.specs.Head.{itemOf, head}
 use Rattle.links.specs.Column.{at}
 use Rattle.links.specs.Plan.{Plan, start, lo, hi, EntryOf, Header, Planned}

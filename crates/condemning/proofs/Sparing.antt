@@ -10,8 +10,8 @@ use lib.ListN.{length}
 use lib.IntN.{ℤ}
 use Rattle.rules.specs.Lists.{any, each}
 use Rattle.rules.specs.Promises.{distinct}
-use Rattle.rules.proofs.Words.Tests.{T-true, T-false, T-and}
-use Rattle.rules.proofs.Words.Lists.{any-cong, each-append}
+use Rattle.theorems.proofs.Words.Tests.{T-true, T-false, T-and}
+use Rattle.theorems.proofs.Words.Lists.{any-cong, each-append}
 use Rattle.links.specs.Head.{itemOf, head}
 use Rattle.links.specs.Column.{at}
 use Rattle.links.specs.Plan.{Plan, lo, hi, EntryOf, Planned}

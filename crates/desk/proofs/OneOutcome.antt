@@ -3,7 +3,7 @@ use mathlib.Core.Path.{_≡_, sym, ap, _∙_}
 use Rattle.rules.specs.Checks.{Results}
 use Rattle.rules.specs.Paper.{paper}
 use Rattle.rules.specs.declared.answer.Answer.{Answer}
-use Rattle.rules.proofs.Checks.Paper.{paper-one}
+use Rattle.theorems.proofs.Checks.Paper.{paper-one}
 use Rattle.desk.specs.Desk.{Served, serving}
 
 pub one-served : (s : Served) (a b : Answer) (after other : Results) → serving (paper a) after ≡ s → serving (paper b) other ≡ s → (a ≡ b) × (after ≡ other)

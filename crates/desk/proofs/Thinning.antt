@@ -19,11 +19,11 @@ use Rattle.rules.specs.Paper.{saidRefused, paper}
 use Rattle.rules.specs.Outcome.{Outcome, cleared, fronts, saidOf, concluded}
 use Rattle.rules.specs.declared.answer.Answer.{Answer}
 use Rattle.rules.specs.declared.answer.Answer.the-variants.{Reduced, Infeasible}
-use Rattle.rules.proofs.Checks.Accept.{Passed, passed}
-use Rattle.rules.proofs.Checks.Paper.{paper-one}
-use Rattle.rules.proofs.Answers.OneOutcome.{outcome-refused, outcome-found}
-use Rattle.rules.proofs.Answers.Bounds.{Within, ReducedWithin, bounds}
-use Rattle.rules.proofs.Answers.CompactFlat.{items-many, colours-many, ends-many}
+use Rattle.theorems.proofs.Checks.Accept.{Passed, passed}
+use Rattle.theorems.proofs.Checks.Paper.{paper-one}
+use Rattle.theorems.proofs.Answers.OneOutcome.{outcome-refused, outcome-found}
+use Rattle.theorems.proofs.Answers.Bounds.{Within, ReducedWithin, bounds}
+use Rattle.theorems.proofs.Answers.CompactFlat.{items-many, colours-many, ends-many}
 use Rattle.engine.specs.Call.{resultLists, handed, outcome}
 use Rattle.engine.proofs.Concluding.{Spacious, spacious}
 use Rattle.checking.proofs.Grow.{figures-grow}

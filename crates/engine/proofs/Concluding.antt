@@ -16,9 +16,9 @@ use Rattle.rules.specs.Rounds.{Finding, reduced, infeasible, reduce}
 use Rattle.rules.specs.Result.{keptOptions, resultsOf}
 use Rattle.rules.specs.Outcome.{Outcome, cleared, fronts, saidOf, concluded}
 use Rattle.rules.specs.Paper.{Said, saidInfeasible}
-use Rattle.rules.proofs.Words.Tests.{T-nor}
-use Rattle.rules.proofs.Checks.Accept.{Passed, passed}
-use Rattle.rules.proofs.Answers.Bounds.{ReducedWithin, InfeasibleWithin, Within, bounds}
+use Rattle.theorems.proofs.Words.Tests.{T-nor}
+use Rattle.theorems.proofs.Checks.Accept.{Passed, passed}
+use Rattle.theorems.proofs.Answers.Bounds.{ReducedWithin, InfeasibleWithin, Within, bounds}
 use Rattle.building.specs.Layout.{planFor, planOf}
 use Rattle.building.specs.Build.{Buildable}
 use Rattle.building.proofs.Premises.{buildable}

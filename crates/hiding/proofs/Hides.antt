@@ -9,7 +9,7 @@ use mathlib.Core.List.{List, List·Memᴰ as In}
 use borrow.Author.Tests.{eq-eqb, le-leb, eqb-true, leb-true}
 use lib.Dec.{eqb, leb}
 use lib.IntN.{pos}
-use Rattle.rules.proofs.Words.Tests.{T-true, true-T, T-and}
+use Rattle.theorems.proofs.Words.Tests.{T-true, true-T, T-and}
 use Rattle.links.specs.Head.{head}
 use Rattle.links.specs.Plan.{Plan, start, EntryOf, Header}
 use Rattle.links.specs.Ground.{Ground, Tidy, Within, taken, Fresh}

@@ -7,7 +7,7 @@ use mathlib.Core.Bool.{Bool, true, false, cond}
 use mathlib.Core.List.{List, [], _∷_, _++_, append-assoc, append-nil, List·Memᴰ as In, List·Memᴰ·head as here, List·Memᴰ·tail as next, List·Memᴰ·not-nil as not-nil, Memᴰ·cast}
 use lib.Dec.{T}
 use Rattle.rules.specs.Promises.{distinct}
-use Rattle.rules.proofs.Words.Distinct.{distinct→}
+use Rattle.theorems.proofs.Words.Distinct.{distinct→}
 use Rattle.links.specs.Plan.{Plan, lo, hi, EntryOf, Planned}
 use Rattle.links.specs.Ground.{Ground, Tidy, Within}
 use Rattle.links.specs.Row.{others}

@@ -13,12 +13,12 @@ use Rattle.rules.specs.Paper.{paper}
 use Rattle.rules.specs.Outcome.{Outcome, saidOf, outcomeAt}
 use Rattle.rules.specs.declared.answer.Answer.{Answer}
 use Rattle.rules.specs.declared.answer.Answer.the-variants.{Reduced, Infeasible, Refused}
-use Rattle.rules.proofs.Checks.Accept.{Passed, passed}
-use Rattle.rules.proofs.Checks.Paper.{paper-one}
-use Rattle.rules.proofs.Answers.Bounds.{Within, bounds, number-range, place-below}
-use Rattle.rules.proofs.Answers.Causes.{cause-range}
-use Rattle.rules.proofs.Answers.RefusalPlaces.{tabled}
-use Rattle.rules.proofs.Answers.OneOutcome.{outcome-refused, outcome-found}
+use Rattle.theorems.proofs.Checks.Accept.{Passed, passed}
+use Rattle.theorems.proofs.Checks.Paper.{paper-one}
+use Rattle.theorems.proofs.Answers.Bounds.{Within, bounds, number-range, place-below}
+use Rattle.theorems.proofs.Answers.Causes.{cause-range}
+use Rattle.theorems.proofs.Answers.RefusalPlaces.{tabled}
+use Rattle.theorems.proofs.Answers.OneOutcome.{outcome-refused, outcome-found}
 use Rattle.kapkyrem.specs.Packed.{Fits}
 
 -- figures whose counts fit the fields, and the rounds and places with them

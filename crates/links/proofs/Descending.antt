@@ -7,7 +7,7 @@ use mathlib.Core.Logic.{_⊎_, inl, inr, ⊎-elim}
 use mathlib.Core.Bool.{Bool, true, false, _&&_, cond}
 use borrow.Author.Tests.{lt-ltb, le-ltb}
 use lib.Dec.{T, leb, ltb, eqb, leb→le, le→leb, eqb→eq}
-use Rattle.rules.proofs.Words.Tests.{T-true, T-and, and-T, eq→eqb}
+use Rattle.theorems.proofs.Words.Tests.{T-true, T-and, and-T, eq→eqb}
 use Rattle.links.specs.Column.{at, Tied}
 use Rattle.links.specs.Plan.{Plan, start, EntryOf, Header}
 use Rattle.links.specs.Ground.{Ground, Tidy}

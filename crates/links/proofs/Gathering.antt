@@ -11,10 +11,10 @@ use borrow.Author.Tests.{le-ltb}
 use lib.Dec.{T, ltb}
 use Rattle.rules.specs.Lists.{keep}
 use Rattle.rules.specs.Promises.{distinct}
-use Rattle.rules.proofs.Words.Lists.{keep→}
-use Rattle.rules.proofs.Words.Distinct.{distinct-append}
-use Rattle.rules.proofs.Words.Rising.{from-rises, rising-distinct}
-use Rattle.rules.proofs.Words.Order.{ordered-keep}
+use Rattle.theorems.proofs.Words.Lists.{keep→}
+use Rattle.theorems.proofs.Words.Distinct.{distinct-append}
+use Rattle.theorems.proofs.Words.Rising.{from-rises, rising-distinct}
+use Rattle.theorems.proofs.Words.Order.{ordered-keep}
 use Rattle.links.specs.Plan.{Plan, start, lo, hi, EntryOf, Header, Planned}
 use Rattle.links.specs.Ground.{Ground, Tidy, Within, taken, Fresh}
 use Rattle.links.specs.Row.{span, full, passed, others}

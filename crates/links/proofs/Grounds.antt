@@ -12,7 +12,7 @@ use lib.ListN.{length, getD, set, length-set}
 use lib.Seq.{getD-set-same, getD-set-other, set-set, set-getD}
 use lib.IntN.{ℤ, pos, negsuc}
 use Rattle.rules.specs.Promises.{distinct}
-use Rattle.rules.proofs.Words.Distinct.{distinct→}
+use Rattle.theorems.proofs.Words.Distinct.{distinct→}
 use Rattle.links.specs.Head.{itemOf, head}
 use Rattle.links.specs.Column.{at, cutUp, cutDown, tieUp, tieDown, without, Ring}
 use Rattle.links.specs.Plan.{Plan, start, lo, hi, EntryOf, Header, Planned}

@@ -10,8 +10,8 @@ use lib.Dec.{T, eqb, ltb}
 use lib.ListN.{length}
 use lib.IntN.{ℤ, pos, negsuc}
 use Rattle.rules.specs.Lists.{any, from}
-use Rattle.rules.proofs.Words.Tests.{T-true}
-use Rattle.rules.proofs.Words.Lists.{any←}
+use Rattle.theorems.proofs.Words.Tests.{T-true}
+use Rattle.theorems.proofs.Words.Lists.{any←}
 use Rattle.links.specs.Head.{itemOf, zeroHead, head}
 use Rattle.links.specs.Column.{at}
 use Rattle.links.specs.Plan.{Plan, start, lo, hi, EntryOf, Planned}

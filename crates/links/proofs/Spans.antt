@@ -9,7 +9,7 @@ use borrow.Author.Tests.{lt-ltb, le-ltb, ltb-true, ltb-false}
 use lib.Dec.{T, ltb}
 use lib.IntN.{ℤ}
 use Rattle.rules.specs.Lists.{keep, from}
-use Rattle.rules.proofs.Words.Lists.{keep→, keep←, In-from, from-In}
+use Rattle.theorems.proofs.Words.Lists.{keep→, keep←, In-from, from-In}
 use Rattle.links.specs.Row.{span, full, passed}
 use Rattle.links.specs.Way.{way, wayBack}
 use Rattle.links.proofs.Stores.{less?}

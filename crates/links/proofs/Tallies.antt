@@ -8,9 +8,9 @@ use mathlib.Core.List.{List, [], _∷_, List·Memᴰ as In, List·Memᴰ·head a
 use borrow.Author.Tests.{eq-eqb, ne-eqb, eqb-true}
 use lib.Dec.{T, eqb}
 use Rattle.rules.specs.Lists.{count, from}
-use Rattle.rules.proofs.Words.Tests.{T-dec, T-true, T-false, T-and}
-use Rattle.rules.proofs.Words.Counts.{count-pos, count-length}
-use Rattle.rules.proofs.Words.Lists.{In-from, from-In, length-from}
+use Rattle.theorems.proofs.Words.Tests.{T-dec, T-true, T-false, T-and}
+use Rattle.theorems.proofs.Words.Counts.{count-pos, count-length}
+use Rattle.theorems.proofs.Words.Lists.{In-from, from-In, length-from}
 use Rattle.links.specs.Column.{without}
 use Rattle.links.specs.Plan.{Plan, start}
 use Rattle.links.specs.Ground.{tally}

@@ -13,8 +13,8 @@ use lib.IntN.{ℤ}
 use Rattle.rules.specs.Lists.{from, upTo, firstThat}
 use Rattle.rules.specs.State.{inLive}
 use Rattle.rules.specs.Rounds.{uncovered}
-use Rattle.rules.proofs.Words.Lists.{In-upTo}
-use Rattle.rules.proofs.Words.Choices.{none-firstThat}
+use Rattle.theorems.proofs.Words.Lists.{In-upTo}
+use Rattle.theorems.proofs.Words.Choices.{none-firstThat}
 use Rattle.links.specs.Head.{itemOf, head}
 use Rattle.links.specs.Ground.{Ground}
 use Rattle.links.proofs.Plans.{header-before}

@@ -14,8 +14,8 @@ use Rattle.rules.specs.State.{State, Step, went, emptied}
 use Rattle.rules.specs.Redundant.{chosen}
 use Rattle.rules.specs.Rounds.{itemStep}
 use Rattle.rules.specs.Promises.{distinct}
-use Rattle.rules.proofs.Words.Tests.{T-true, T-and, T-or}
-use Rattle.rules.proofs.Steps.Redundancy.{chosen→}
+use Rattle.theorems.proofs.Words.Tests.{T-true, T-and, T-or}
+use Rattle.theorems.proofs.Steps.Redundancy.{chosen→}
 use Rattle.links.specs.Head.{head}
 use Rattle.links.specs.Column.{at}
 use Rattle.links.specs.Plan.{Plan, start, lo, EntryOf, Header, Planned}

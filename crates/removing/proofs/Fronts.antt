@@ -9,7 +9,7 @@ use borrow.Author.Tests.{lt-ltb, le-ltb}
 use lib.Dec.{ltb}
 use lib.IntN.{ℤ}
 use Rattle.rules.specs.Lists.{keep, from}
-use Rattle.rules.proofs.Words.Lists.{keep-cong}
+use Rattle.theorems.proofs.Words.Lists.{keep-cong}
 use Rattle.links.specs.Head.{itemOf, head}
 use Rattle.links.specs.Plan.{Plan, lo, hi, EntryOf}
 use Rattle.links.specs.Ground.{Ground}

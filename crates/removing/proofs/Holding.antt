@@ -10,8 +10,8 @@ use lib.Dec.{T, eqb}
 use lib.ListN.{length}
 use lib.IntN.{ℤ}
 use Rattle.rules.specs.Lists.{any}
-use Rattle.rules.proofs.Words.Tests.{T-same, T-and, and-T, T-true, true-T}
-use Rattle.rules.proofs.Words.Lists.{any→, any←, any-append}
+use Rattle.theorems.proofs.Words.Tests.{T-same, T-and, and-T, T-true, true-T}
+use Rattle.theorems.proofs.Words.Lists.{any→, any←, any-append}
 use Rattle.links.specs.Head.{itemOf, head}
 use Rattle.links.specs.Column.{at}
 use Rattle.links.specs.Plan.{EntryOf}

@@ -8,8 +8,8 @@ use mathlib.Core.Bool.{Bool, true, false, not, _&&_, cond}
 use mathlib.Core.List.{List, [], _++_, List·Memᴰ as In}
 use borrow.Author.Tests.{eqb-true, leb-true, le-leb, eq-eqb}
 use lib.Dec.{T, leb, eqb}
-use Rattle.rules.proofs.Words.Tests.{T-and, and-T, T-true, true-T}
-use Rattle.rules.proofs.Words.Lists.{any→, any←}
+use Rattle.theorems.proofs.Words.Tests.{T-and, and-T, T-true, true-T}
+use Rattle.theorems.proofs.Words.Lists.{any→, any←}
 use Rattle.links.specs.Plan.{start, lo, hi, EntryOf}
 use Rattle.links.specs.Ground.{Ground, Tidy, Within, Fresh}
 use Rattle.links.specs.Row.{span, others}

@@ -8,8 +8,8 @@ use borrow.Author.Tests.{eq-eqb, eqb-true}
 use lib.Dec.{T, eqb}
 use lib.IntN.{pos}
 use Rattle.rules.specs.Lists.{count, from}
-use Rattle.rules.proofs.Words.Tests.{T-and, and-T, T-true, true-T, neqb→ne, ne→neqb}
-use Rattle.rules.proofs.Words.Counts.{count-le}
+use Rattle.theorems.proofs.Words.Tests.{T-and, and-T, T-true, true-T, neqb→ne, ne→neqb}
+use Rattle.theorems.proofs.Words.Counts.{count-le}
 use Rattle.links.specs.Column.{at, Tied}
 use Rattle.links.specs.Plan.{Plan, start, Header}
 use Rattle.links.specs.Ground.{Ground, tally, Tidy}

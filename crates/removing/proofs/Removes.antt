@@ -11,7 +11,7 @@ use lib.Dec.{T, ltb}
 use lib.ListN.{length, set}
 use lib.Seq.{getD-set-other}
 use lib.IntN.{ℤ, pos}
-use Rattle.rules.proofs.Words.Tests.{T-true, T-imp}
+use Rattle.theorems.proofs.Words.Tests.{T-true, T-imp}
 use Rattle.links.specs.Head.{itemOf, head}
 use Rattle.links.specs.Column.{at}
 use Rattle.links.specs.Plan.{start, EntryOf, Header}

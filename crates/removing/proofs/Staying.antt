@@ -7,7 +7,7 @@ use mathlib.Core.Bool.{Bool, true, not, _&&_, _||_}
 use mathlib.Core.List.{List·Memᴰ as In}
 use borrow.Author.Tests.{lt-ltb, ltb-true}
 use lib.Dec.{T, ltb, eqb, T-not}
-use Rattle.rules.proofs.Words.Tests.{T-and, and-T, T-or, or-left, or-right, T-imp, imp-T, T-true, true-T, T-same, T-dec, neqb→ne, ne→neqb}
+use Rattle.theorems.proofs.Words.Tests.{T-and, and-T, T-or, or-left, or-right, T-imp, imp-T, T-true, true-T, T-same, T-dec, neqb→ne, ne→neqb}
 use Rattle.links.specs.Plan.{start, EntryOf}
 use Rattle.links.specs.Ground.{Ground, Tidy, taken}
 use Rattle.links.specs.Shown.{Ready}

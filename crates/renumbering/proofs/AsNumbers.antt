@@ -10,7 +10,7 @@ use lib.Dec.{T}
 use Rattle.rules.specs.Lists.{mem, place}
 use Rattle.rules.specs.Checks.{Refusal}
 use Rattle.rules.specs.Renumber.{Renumbered, renumberRefusal, compactItem, compactOutcome}
-use Rattle.rules.proofs.Words.Lists.{In-map, In-getD}
+use Rattle.theorems.proofs.Words.Lists.{In-map, In-getD}
 use Rattle.words.specs.Bytes.{numbersOf, bytesOf, ragged}
 use Rattle.words.proofs.Numbers.{Below, below-each, numbers-small, numbers-written}
 use Rattle.renumbering.specs.Bytes.{writtenUnless, compactBytesOutcome}

@@ -10,10 +10,10 @@ use lib.Dec.{not-T}
 use lib.ListN.{length, getD}
 use borrow.Author.Tests.{lt-ltb}
 use Rattle.rules.specs.Lists.{risingAbove, rising}
-use Rattle.rules.proofs.Words.Tests.{T-false, true-T}
-use Rattle.rules.proofs.Words.Lists.{getD-In}
-use Rattle.rules.proofs.Words.Order.{Ordered}
-use Rattle.rules.proofs.Words.Rising.{rising→}
+use Rattle.theorems.proofs.Words.Tests.{T-false, true-T}
+use Rattle.theorems.proofs.Words.Lists.{getD-In}
+use Rattle.theorems.proofs.Words.Order.{Ordered}
+use Rattle.theorems.proofs.Words.Rising.{rising→}
 
 -- At any two places of a rising list the number behind is the greater.
 ordered-rises : (l : List ℕ) → Ordered _<_ l → (j k : ℕ) → j < k → k < length l → getD l j 0 < getD l k 0

@@ -9,9 +9,9 @@ use mathlib.Core.List.{List, [], _∷_, Memᴰ·cast}
 use lib.Dec.{T, not-T, T-not}
 use lib.ListN.{length, getD}
 use Rattle.rules.specs.Lists.{mem, rising, place}
-use Rattle.rules.proofs.Words.Tests.{T-stable}
-use Rattle.rules.proofs.Words.Lists.{getD-In, mem→, mem←}
-use Rattle.rules.proofs.Words.Places.{place-first, place-later, place-found}
+use Rattle.theorems.proofs.Words.Tests.{T-stable}
+use Rattle.theorems.proofs.Words.Lists.{getD-In, mem→, mem←}
+use Rattle.theorems.proofs.Words.Places.{place-first, place-later, place-found}
 use Rattle.renumbering.proofs.Climbing.{rises-to, place-below-number}
 
 -- where a number first stands, or the list ends, is its place

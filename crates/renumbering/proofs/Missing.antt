@@ -10,7 +10,7 @@ use lib.ListN.{length, getD}
 use borrow.Author.Tests.{lt-ltb, le-ltb}
 use Rattle.rules.specs.Lists.{mem}
 use Rattle.rules.specs.Renumber.{notKept}
-use Rattle.rules.proofs.Words.Tests.{T-true, T-false}
+use Rattle.theorems.proofs.Words.Tests.{T-true, T-false}
 use Rattle.renumbering.specs.Parts.{placeBelow, AllKept}
 
 -- the items before place k are kept

@@ -13,9 +13,9 @@ use borrow.Author.Tests.{lt-ltb, le-ltb, eq-eqb, ne-eqb}
 use Rattle.rules.specs.Lists.{rising}
 use Rattle.rules.specs.Checks.{Refusal, refuse, refuseAt}
 use Rattle.rules.specs.Renumber.{notKept, renumberRefusal}
-use Rattle.rules.proofs.Words.Tests.{T-true, T-nor, neqb→ne}
-use Rattle.rules.proofs.Words.Choices.{orElse-none}
-use Rattle.rules.proofs.Checks.Accept.{refuse-none}
+use Rattle.theorems.proofs.Words.Tests.{T-true, T-nor, neqb→ne}
+use Rattle.theorems.proofs.Words.Choices.{orElse-none}
+use Rattle.theorems.proofs.Checks.Accept.{refuse-none}
 use Rattle.words.specs.Bytes.{numbersOf, ragged}
 use Rattle.renumbering.specs.Bytes.{bytesRefusal}
 use Rattle.renumbering.specs.Parts.{placeBelow, Sound, AllKept}

@@ -10,8 +10,8 @@ use lib.ListN.{length, getD, take}
 use borrow.Author.Tests.{lt-ltb, le-ltb, eq-eqb, ne-eqb}
 use Rattle.rules.specs.Lists.{mem, place}
 use Rattle.rules.specs.Renumber.{sd, crateItem}
-use Rattle.rules.proofs.Words.Tests.{T-dec, T-same, neqb→ne}
-use Rattle.rules.proofs.Words.Places.{place-first, place-later}
+use Rattle.theorems.proofs.Words.Tests.{T-dec, T-same, neqb→ne}
+use Rattle.theorems.proofs.Words.Places.{place-first, place-later}
 use Rattle.renumbering.specs.Parts.{Sound}
 use Rattle.renumbering.proofs.Climbing.{rises, rises-to}
 use Rattle.renumbering.proofs.Halving.{place-present}

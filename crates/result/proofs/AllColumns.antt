@@ -8,8 +8,8 @@ use lib.ListN.{length}
 use lib.IntN.{ℤ}
 use Rattle.rules.specs.Lists.{each, from, upTo, written}
 use Rattle.rules.specs.Result.{Numbered, keptOptions, resultsOf}
-use Rattle.rules.proofs.Words.Tests.{T-and}
-use Rattle.rules.proofs.Words.Lists.{keep-none, each-append}
+use Rattle.theorems.proofs.Words.Tests.{T-and}
+use Rattle.theorems.proofs.Words.Lists.{keep-none, each-append}
 use Rattle.links.specs.Head.{itemOf, head}
 use Rattle.links.specs.Plan.{start, Header}
 use Rattle.links.specs.Ground.{Ground, tally}

@@ -7,8 +7,8 @@ use Rattle.rules.specs.Lists.{each}
 use Rattle.rules.specs.Problem.{Entry}
 use Rattle.rules.specs.State.{State, itemsOf}
 use Rattle.rules.specs.Result.{keptOptions, resultsOf}
-use Rattle.rules.proofs.Answers.EachFacts.{each-lengths}
-use Rattle.rules.proofs.Answers.KeptSizes.{entries-most}
+use Rattle.theorems.proofs.Answers.EachFacts.{each-lengths}
+use Rattle.theorems.proofs.Answers.KeptSizes.{entries-most}
 use Rattle.result.specs.Writing.{Out, itemsIn}
 use Rattle.result.specs.Reading.{Holding}
 use Rattle.result.proofs.Lists.{length-ends, length-numbers, length-colours}

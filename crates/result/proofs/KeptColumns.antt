@@ -10,9 +10,9 @@ use lib.IntN.{ℤ}
 use Rattle.rules.specs.Lists.{keep, count, from, upTo, written}
 use Rattle.rules.specs.State.{inLive}
 use Rattle.rules.specs.Result.{keptItems, primariesOf, secondariesOf}
-use Rattle.rules.proofs.Words.Tests.{T-same, T-true, T-false, le→nltb}
-use Rattle.rules.proofs.Words.Lists.{keep→, keep-cong, In-upTo}
-use Rattle.rules.proofs.Words.Counts.{count-append, count-split}
+use Rattle.theorems.proofs.Words.Tests.{T-same, T-true, T-false, le→nltb}
+use Rattle.theorems.proofs.Words.Lists.{keep→, keep-cong, In-upTo}
+use Rattle.theorems.proofs.Words.Counts.{count-append, count-split}
 use Rattle.links.specs.Head.{itemOf, head}
 use Rattle.links.specs.Plan.{Header}
 use Rattle.links.specs.Ground.{Ground}

@@ -12,12 +12,12 @@ use Rattle.rules.specs.Lists.{any, keep, each, from, upTo}
 use Rattle.rules.specs.Problem.{Entry}
 use Rattle.rules.specs.State.{is, begins}
 use Rattle.rules.specs.Result.{Numbered, numbered, keptOptions}
-use Rattle.rules.proofs.Words.Tests.{T-dec, T-true, T-false, true-T, T-and, and-T, T-same, eq→eqb}
-use Rattle.rules.proofs.Words.Lists.{any→, keep←, keep-cong, keep-none, none-any, length-from, each-cong, In-upTo}
-use Rattle.rules.proofs.Words.Counts.{length-keep}
-use Rattle.rules.proofs.Answers.EachFacts.{each-single, each-lengths}
-use Rattle.rules.proofs.Words.Order.{Ordered, ordered-keep}
-use Rattle.rules.proofs.Words.Rising.{from-rises}
+use Rattle.theorems.proofs.Words.Tests.{T-dec, T-true, T-false, true-T, T-and, and-T, T-same, eq→eqb}
+use Rattle.theorems.proofs.Words.Lists.{any→, keep←, keep-cong, keep-none, none-any, length-from, each-cong, In-upTo}
+use Rattle.theorems.proofs.Words.Counts.{length-keep}
+use Rattle.theorems.proofs.Answers.EachFacts.{each-single, each-lengths}
+use Rattle.theorems.proofs.Words.Order.{Ordered, ordered-keep}
+use Rattle.theorems.proofs.Words.Rising.{from-rises}
 use Rattle.links.specs.Plan.{start, lo, EntryOf, Planned}
 use Rattle.links.specs.Ground.{Ground}
 use Rattle.links.specs.Row.{span, full, firstLive}

@@ -7,8 +7,8 @@ use lib.ListN.{length, length-append, length-map}
 use Rattle.rules.specs.Problem.{Entry}
 use Rattle.rules.specs.State.{itemsOf}
 use Rattle.rules.specs.Result.{Numbered, endsFrom, numbersOf, coloursOf}
-use Rattle.rules.proofs.Words.Lists.{each-append}
-use Rattle.rules.proofs.Answers.EachFacts.{each-lengths}
+use Rattle.theorems.proofs.Words.Lists.{each-append}
+use Rattle.theorems.proofs.Answers.EachFacts.{each-lengths}
 use Rattle.result.specs.Writing.{Out, itemsIn, coloursIn, Suffices}
 
 pub items-one : (xs : List Numbered) (x : Numbered) → itemsIn (xs ++ (x ∷ [])) ≡ itemsIn xs ++ itemsOf (x .entries)

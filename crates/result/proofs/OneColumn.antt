@@ -11,7 +11,7 @@ use lib.ListN.{length}
 use lib.IntN.{ℤ}
 use Rattle.rules.specs.Lists.{keep}
 use Rattle.rules.specs.Result.{Numbered}
-use Rattle.rules.proofs.Words.Tests.{T-true, true-T, T-and}
+use Rattle.theorems.proofs.Words.Tests.{T-true, true-T, T-and}
 use Rattle.links.specs.Head.{itemOf, head}
 use Rattle.links.specs.Column.{at, Tied}
 use Rattle.links.specs.Plan.{Plan, start, EntryOf, Header, Planned}

@@ -6,8 +6,8 @@ use mathlib.Core.Bool.{Bool, true, false, cond}
 use mathlib.Core.List.{List, [], _∷_, _++_, append-nil}
 use lib.ListN.{length, length-append}
 use Rattle.rules.specs.Lists.{keep, from}
-use Rattle.rules.proofs.Words.Tests.{false-T}
-use Rattle.rules.proofs.Words.Lists.{keep-none}
+use Rattle.theorems.proofs.Words.Tests.{false-T}
+use Rattle.theorems.proofs.Words.Lists.{keep-none}
 use Rattle.links.specs.Row.{span}
 use Rattle.links.proofs.Spans.{span-end, In-span}
 use Rattle.showing.proofs.Lists.{keep-append}

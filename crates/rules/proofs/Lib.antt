@@ -1,11 +1,3 @@
--- The proofs, a folder a layer, each standing only on layers above it in this list. `AllSamples` stands apart: a check takes modules by name,
--- so it is first, and a false definition is first seen as a sample that fails. Assumes nothing.
+-- Document 01's samples and table cases, worked out from the definitions. The theorems about the definitions stand in crate theorems. Assumes
+-- nothing.
 pub mod AllSamples
-pub mod Words
-pub mod Steps
-pub mod Results
-pub mod Covers
-pub mod Settled
-pub mod Checks
-pub mod Laws
-pub mod Answers

@@ -13,9 +13,9 @@ use Rattle.rules.specs.Lists.{keep, from}
 use Rattle.rules.specs.Problem.{Entry}
 use Rattle.rules.specs.State.{optionAt, entriesAfter, entriesBefore, itemsOf, around}
 use Rattle.rules.specs.Blocked.{secondToFirst}
-use Rattle.rules.proofs.Words.Tests.{T-true, true-T, false-T, T-same}
+use Rattle.theorems.proofs.Words.Tests.{T-true, true-T, false-T, T-same}
 use borrow.Author.Tests.{eq-eqb, ne-eqb}
-use Rattle.rules.proofs.Words.Lists.{keep→, keep-cong, keep-none, none-any, In-map}
+use Rattle.theorems.proofs.Words.Lists.{keep→, keep-cong, keep-none, none-any, In-map}
 use Rattle.links.specs.Head.{itemOf, head}
 use Rattle.links.specs.Plan.{lo, hi, EntryOf, Planned}
 use Rattle.links.specs.Ground.{Ground, Short}

@@ -9,11 +9,11 @@ use lib.Dec.{T, eqb, T-not, not-T}
 use Rattle.rules.specs.Lists.{keep}
 use Rattle.rules.specs.Problem.{Entry}
 use Rattle.rules.specs.State.{optionAt, is, isUncoloured, begins}
-use Rattle.rules.proofs.Words.Tests.{T-true, T-false, true-T, false-T, T-and}
+use Rattle.theorems.proofs.Words.Tests.{T-true, T-false, true-T, false-T, T-and}
 use borrow.Author.Tests.{eq-eqb, ne-eqb}
-use Rattle.rules.proofs.Words.Lists.{any→, any←, any-none, keep←}
-use Rattle.rules.proofs.Words.Order.{Ordered, ordered-keep}
-use Rattle.rules.proofs.Words.Rising.{from-rises}
+use Rattle.theorems.proofs.Words.Lists.{any→, any←, any-none, keep←}
+use Rattle.theorems.proofs.Words.Order.{Ordered, ordered-keep}
+use Rattle.theorems.proofs.Words.Rising.{from-rises}
 use Rattle.links.specs.Plan.{lo, Planned}
 use Rattle.links.specs.Ground.{Ground}
 use Rattle.links.specs.Row.{span, full}

@@ -12,11 +12,11 @@ use Rattle.rules.specs.Problem.{Entry}
 use Rattle.rules.specs.State.{optionAt, isUncoloured, holds, holdsUncoloured, begins, inLive}
 use Rattle.rules.specs.Redundant.{chosen}
 use Rattle.rules.specs.Blocked.{agree, clashes, blocked}
-use Rattle.rules.proofs.Words.Tests.{T-true, true-T, false-T, T-and, and-T, T-same, T-imp, imp-T, eq→eqb}
-use Rattle.rules.proofs.Words.Lists.{any→, any←, all→, all←, any-cong, any-map, map-In, In-map}
-use Rattle.rules.proofs.Steps.Blocking.{clashes→, clashes←}
-use Rattle.rules.proofs.Laws.Hiding.{hiddenState, In-hidden, hidden-In, live-hidden, hidden-live}
-use Rattle.rules.proofs.Laws.AnyOrder.{shutOut, Others, blocked-any-order}
+use Rattle.theorems.proofs.Words.Tests.{T-true, true-T, false-T, T-and, and-T, T-same, T-imp, imp-T, eq→eqb}
+use Rattle.theorems.proofs.Words.Lists.{any→, any←, all→, all←, any-cong, any-map, map-In, In-map}
+use Rattle.theorems.proofs.Steps.Blocking.{clashes→, clashes←}
+use Rattle.theorems.proofs.Laws.Hiding.{hiddenState, In-hidden, hidden-In, live-hidden, hidden-live}
+use Rattle.theorems.proofs.Laws.AnyOrder.{shutOut, Others, blocked-any-order}
 use Rattle.links.specs.Plan.{start, lo, hi, EntryOf, Planned}
 use Rattle.links.specs.Ground.{Ground, taken}
 use Rattle.links.specs.Row.{span, full, others}

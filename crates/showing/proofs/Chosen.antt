@@ -8,11 +8,11 @@ use mathlib.Core.Bool.{Bool, true, false, _&&_, not}
 use mathlib.Core.List.{List, List·Memᴰ as In}
 use lib.Dec.{ltb, leb, eqb, ltb→lt, lt→ltb, leb→le, le→leb}
 use Rattle.rules.specs.Redundant.{chosen}
-use Rattle.rules.proofs.Words.Tests.{T-same}
+use Rattle.theorems.proofs.Words.Tests.{T-same}
 use borrow.Author.Tests.{ne-eqb}
-use Rattle.rules.proofs.Steps.Redundancy.{emptiedWith}
-use Rattle.rules.proofs.Laws.Held.{held}
-use Rattle.rules.proofs.Laws.Counters.{countedFirst, countedLast, hiding-counted, removing-counted}
+use Rattle.theorems.proofs.Steps.Redundancy.{emptiedWith}
+use Rattle.theorems.proofs.Laws.Held.{held}
+use Rattle.theorems.proofs.Laws.Counters.{countedFirst, countedLast, hiding-counted, removing-counted}
 use Rattle.links.specs.Plan.{EntryOf, Header, Planned}
 use Rattle.links.specs.Ground.{Ground}
 use Rattle.links.specs.Shown.{Ready}

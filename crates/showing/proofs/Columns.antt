@@ -4,8 +4,8 @@ use mathlib.Core.Path.{_≡_}
 use mathlib.Core.Bool.{true, _&&_}
 use lib.Dec.{T, eqb, leb, eqb→eq, leb→le, le→leb}
 use Rattle.rules.specs.State.{optionAt, holds}
-use Rattle.rules.proofs.Words.Tests.{T-true, true-T, T-and, and-T, T-same, eq→eqb}
-use Rattle.rules.proofs.Words.Lists.{any→, any←}
+use Rattle.theorems.proofs.Words.Tests.{T-true, true-T, T-and, and-T, T-same, eq→eqb}
+use Rattle.theorems.proofs.Words.Lists.{any→, any←}
 use Rattle.links.specs.Plan.{start, EntryOf}
 use Rattle.links.specs.Ground.{Ground, Tidy}
 use Rattle.links.specs.Taking.{inColumn, holdsColumn}

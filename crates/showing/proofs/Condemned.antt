@@ -10,10 +10,10 @@ use Rattle.rules.specs.Lists.{keep, upTo}
 use Rattle.rules.specs.State.{optionAt, holds}
 use Rattle.rules.specs.Redundant.{chosen}
 use Rattle.rules.specs.Blocked.{blocked, condemned}
-use Rattle.rules.proofs.Words.Tests.{T-true, T-false, true-T, T-and, and-T}
-use Rattle.rules.proofs.Words.Lists.{keep→, In-reverse}
-use Rattle.rules.proofs.Steps.States.{uncoloured-holds}
-use Rattle.rules.proofs.Steps.Blocking.{condemned-holds}
+use Rattle.theorems.proofs.Words.Tests.{T-true, T-false, true-T, T-and, and-T}
+use Rattle.theorems.proofs.Words.Lists.{keep→, In-reverse}
+use Rattle.theorems.proofs.Steps.States.{uncoloured-holds}
+use Rattle.theorems.proofs.Steps.Blocking.{condemned-holds}
 use Rattle.links.specs.Plan.{EntryOf, Planned}
 use Rattle.links.specs.Ground.{Ground, taken}
 use Rattle.links.specs.Shown.{Ready}

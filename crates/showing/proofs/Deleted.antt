@@ -11,9 +11,9 @@ use Rattle.rules.specs.Lists.{keep, upTo}
 use Rattle.rules.specs.State.{optionAt}
 use Rattle.rules.specs.Blocked.{condemned}
 use Rattle.rules.specs.Promises.{distinct}
-use Rattle.rules.proofs.Words.Lists.{In-each, map-In}
-use Rattle.rules.proofs.Words.Distinct.{distinct→, distinct-append}
-use Rattle.rules.proofs.Words.Rising.{some-rise, rising-distinct}
+use Rattle.theorems.proofs.Words.Lists.{In-each, map-In}
+use Rattle.theorems.proofs.Words.Distinct.{distinct→, distinct-append}
+use Rattle.theorems.proofs.Words.Rising.{some-rise, rising-distinct}
 use Rattle.links.specs.Head.{head}
 use Rattle.links.specs.Plan.{EntryOf, Planned}
 use Rattle.links.specs.Ground.{Ground, Within, taken, Fresh}

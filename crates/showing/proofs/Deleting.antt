@@ -9,10 +9,10 @@ use Rattle.rules.specs.Lists.{each, upTo}
 use Rattle.rules.specs.Problem.{Entry}
 use Rattle.rules.specs.State.{optionAt}
 use Rattle.rules.specs.Blocked.{condemned, secondToFirst, leavingBlocked}
-use Rattle.rules.proofs.Words.Lists.{In-each, each-In, each-cong}
-use Rattle.rules.proofs.Steps.Blocking.{emptiedBlocked}
-use Rattle.rules.proofs.Laws.Held.{held}
-use Rattle.rules.proofs.Laws.Counters.{countedFirst, deleting-counted}
+use Rattle.theorems.proofs.Words.Lists.{In-each, each-In, each-cong}
+use Rattle.theorems.proofs.Steps.Blocking.{emptiedBlocked}
+use Rattle.theorems.proofs.Laws.Held.{held}
+use Rattle.theorems.proofs.Laws.Counters.{countedFirst, deleting-counted}
 use Rattle.links.specs.Plan.{EntryOf}
 use Rattle.links.specs.Ground.{Ground}
 use Rattle.links.specs.Row.{others}

@@ -11,10 +11,10 @@ use Rattle.rules.specs.Lists.{keep, each, from, upTo}
 use Rattle.rules.specs.Problem.{Entry}
 use Rattle.rules.specs.State.{optionAt, holds, holdsUncoloured, around}
 use Rattle.rules.specs.Redundant.{leavingWith}
-use Rattle.rules.proofs.Words.Tests.{T-dec, T-true, T-false, true-T, T-and, and-T, T-same, eq→eqb}
-use Rattle.rules.proofs.Words.Lists.{each-cong, In-upTo, each-append}
-use Rattle.rules.proofs.Steps.States.{uncoloured-holds}
-use Rattle.rules.proofs.Laws.Hiding.{leavingHidden}
+use Rattle.theorems.proofs.Words.Tests.{T-dec, T-true, T-false, true-T, T-and, and-T, T-same, eq→eqb}
+use Rattle.theorems.proofs.Words.Lists.{each-cong, In-upTo, each-append}
+use Rattle.theorems.proofs.Steps.States.{uncoloured-holds}
+use Rattle.theorems.proofs.Laws.Hiding.{leavingHidden}
 use Rattle.links.specs.Plan.{EntryOf, Planned}
 use Rattle.links.specs.Ground.{Ground}
 use Rattle.links.specs.Row.{others}

@@ -9,7 +9,7 @@ use mathlib.Core.List.{List, List·Memᴰ as In}
 use lib.Dec.{T, ltb, eqb, eqb→eq, T-not, not-T}
 use lib.IntN.{ℤ}
 use Rattle.rules.specs.State.{optionAt, holdsUncoloured}
-use Rattle.rules.proofs.Words.Tests.{T-true, true-T, T-and, and-T, eq→eqb}
+use Rattle.theorems.proofs.Words.Tests.{T-true, true-T, T-and, and-T, eq→eqb}
 use Rattle.links.specs.Head.{itemOf}
 use Rattle.links.specs.Plan.{Plan, EntryOf, Planned}
 use Rattle.links.specs.Ground.{Ground, Tidy, Within, taken, Fresh}

@@ -11,12 +11,12 @@ use lib.ListN.{length}
 use Rattle.rules.specs.Lists.{keep, each, from, upTo}
 use Rattle.rules.specs.Problem.{Entry}
 use Rattle.rules.specs.State.{optionAt, holds, inLive}
-use Rattle.rules.proofs.Words.Tests.{T-dec, T-true, T-false, true-T, T-and, and-T, T-same, eq→eqb}
-use Rattle.rules.proofs.Words.Lists.{each-cong, keep→, keep←, keep-none, each-In, In-each, In-from, In-upTo, upTo-In}
-use Rattle.rules.proofs.Words.Counts.{count-keep, count-map, count-cong}
-use Rattle.rules.proofs.Words.Order.{Ordered, ordered-keep}
-use Rattle.rules.proofs.Words.Rising.{from-rises, rising-same}
-use Rattle.rules.proofs.Laws.Held.{held, held-live, live-held}
+use Rattle.theorems.proofs.Words.Tests.{T-dec, T-true, T-false, true-T, T-and, and-T, T-same, eq→eqb}
+use Rattle.theorems.proofs.Words.Lists.{each-cong, keep→, keep←, keep-none, each-In, In-each, In-from, In-upTo, upTo-In}
+use Rattle.theorems.proofs.Words.Counts.{count-keep, count-map, count-cong}
+use Rattle.theorems.proofs.Words.Order.{Ordered, ordered-keep}
+use Rattle.theorems.proofs.Words.Rising.{from-rises, rising-same}
+use Rattle.theorems.proofs.Laws.Held.{held, held-live, live-held}
 use Rattle.links.specs.Head.{itemOf}
 use Rattle.links.specs.Plan.{Plan, start, EntryOf, Header, Planned}
 use Rattle.links.specs.Ground.{Ground, Tidy, tally}

@@ -12,8 +12,8 @@ use Rattle.rules.specs.State.{State, went, emptied, unless}
 use Rattle.rules.specs.Redundant.{chosen, stateWithout, removeItem}
 use Rattle.rules.specs.Blocked.{condemned, stateSpared, deleteBlocked}
 use Rattle.rules.specs.Rounds.{stepFor, itemStep}
-use Rattle.rules.proofs.Steps.Redundancy.{emptiedWith}
-use Rattle.rules.proofs.Steps.Blocking.{emptiedBlocked}
+use Rattle.theorems.proofs.Steps.Redundancy.{emptiedWith}
+use Rattle.theorems.proofs.Steps.Blocking.{emptiedBlocked}
 use Rattle.links.specs.Ground.{Ground, taken}
 use Rattle.links.specs.Shown.{shown, Ready}
 use Rattle.links.specs.Taking.{lastOut, firstOut, hides, leaves, offColumn, maskWithout}

@@ -13,8 +13,8 @@ use lib.ListN.{length, List·getD-eq-default}
 use lib.Seq.{getD-set-same, getD-set-other, set-out}
 use lib.IntN.{ℤ, pos}
 use Rattle.rules.specs.Lists.{orElse}
-use Rattle.rules.proofs.Words.Tests.{T-same, eq→eqb}
-use Rattle.rules.proofs.Laws.Counters.{less, countedFirst, countedLast}
+use Rattle.theorems.proofs.Words.Tests.{T-same, eq→eqb}
+use Rattle.theorems.proofs.Laws.Counters.{less, countedFirst, countedLast}
 use Rattle.links.specs.Head.{itemOf, head}
 use Rattle.links.specs.Ground.{Ground, cutHeads, cutOne}
 use Rattle.links.specs.Taking.{lengthOf, emptiesAt, lastOut, firstOut}

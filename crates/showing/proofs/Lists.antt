@@ -10,10 +10,10 @@ use lib.Dec.{T}
 use lib.ListN.{length, getD, length-append}
 use Rattle.rules.specs.Lists.{keep, count, each}
 use Rattle.rules.specs.Promises.{distinct}
-use Rattle.rules.proofs.Words.Lists.{In-map, In-reverse, each-append}
-use Rattle.rules.proofs.Words.Distinct.{distinct→, distinct←, distinct-append}
-use Rattle.rules.proofs.Words.Order.{Ordered}
-use Rattle.rules.proofs.Words.Rising.{rising-same}
+use Rattle.theorems.proofs.Words.Lists.{In-map, In-reverse, each-append}
+use Rattle.theorems.proofs.Words.Distinct.{distinct→, distinct←, distinct-append}
+use Rattle.theorems.proofs.Words.Order.{Ordered}
+use Rattle.theorems.proofs.Words.Rising.{rising-same}
 
 -- keeping in two parts
 pub keep-append : {A : Type 0} (f : A → Bool) (l m : List A) → keep f (l ++ m) ≡ keep f l ++ keep f m

@@ -9,8 +9,8 @@ use Rattle.rules.specs.Lists.{keep, upTo}
 use Rattle.rules.specs.Problem.{Entry}
 use Rattle.rules.specs.State.{is}
 use Rattle.rules.specs.Redundant.{withoutItem}
-use Rattle.rules.proofs.Words.Tests.{T-same, false-T, eq→eqb}
-use Rattle.rules.proofs.Words.Lists.{keep-cong, keep-none, map-cong, In-upTo}
+use Rattle.theorems.proofs.Words.Tests.{T-same, false-T, eq→eqb}
+use Rattle.theorems.proofs.Words.Lists.{keep-cong, keep-none, map-cong, In-upTo}
 use Rattle.links.specs.Plan.{Plan, EntryOf, Planned}
 use Rattle.links.specs.Shown.{entryAt, shownRow, shown}
 use Rattle.showing.proofs.Lists.{keep-both, keep-map}

@@ -10,8 +10,8 @@ use Rattle.rules.specs.Lists.{keep, each, from, upTo}
 use Rattle.rules.specs.Problem.{Entry}
 use Rattle.rules.specs.State.{State, optionAt, is, holds, begins, inLive}
 use Rattle.rules.specs.Result.{Numbered, numbered, keptItems, keptOptions}
-use Rattle.rules.proofs.Words.Tests.{T-true, T-false, true-T, T-and, and-T, T-same}
-use Rattle.rules.proofs.Words.Lists.{any←, keep→, keep-cong, map-cong, each-cong, In-upTo}
+use Rattle.theorems.proofs.Words.Tests.{T-true, T-false, true-T, T-and, and-T, T-same}
+use Rattle.theorems.proofs.Words.Lists.{any←, keep→, keep-cong, map-cong, each-cong, In-upTo}
 use Rattle.links.specs.Plan.{EntryOf, Header, Planned}
 use Rattle.links.specs.Ground.{Ground}
 use Rattle.links.specs.Row.{others}

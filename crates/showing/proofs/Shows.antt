@@ -13,11 +13,11 @@ use Rattle.rules.specs.Lists.{upTo}
 use Rattle.rules.specs.Problem.{Entry}
 use Rattle.rules.specs.State.{optionAt, holds, holdsUncoloured, inLive, itemsOf}
 use Rattle.rules.specs.Promises.{distinct}
-use Rattle.rules.proofs.Words.Tests.{T-true, true-T}
-use Rattle.rules.proofs.Words.Lists.{keep→, keep←, map-In, In-map, map-cong, In-upTo, getD-In, In-getD, getD-from, length-from}
-use Rattle.rules.proofs.Words.Rising.{from-rises, rising-distinct}
-use Rattle.rules.proofs.Words.Order.{ordered-keep}
-use Rattle.rules.proofs.Steps.States.{holds→, holds←, uncoloured→, uncoloured←, live-at, at-live}
+use Rattle.theorems.proofs.Words.Tests.{T-true, true-T}
+use Rattle.theorems.proofs.Words.Lists.{keep→, keep←, map-In, In-map, map-cong, In-upTo, getD-In, In-getD, getD-from, length-from}
+use Rattle.theorems.proofs.Words.Rising.{from-rises, rising-distinct}
+use Rattle.theorems.proofs.Words.Order.{ordered-keep}
+use Rattle.theorems.proofs.Steps.States.{holds→, holds←, uncoloured→, uncoloured←, live-at, at-live}
 use Rattle.links.specs.Plan.{Plan, start, EntryOf, Header, Planned}
 use Rattle.links.specs.Ground.{tally}
 use Rattle.links.specs.Row.{span}

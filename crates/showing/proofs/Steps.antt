@@ -14,11 +14,11 @@ use Rattle.rules.specs.Problem.{Entry}
 use Rattle.rules.specs.State.{optionAt, holds}
 use Rattle.rules.specs.Redundant.{withoutItem, shortened, stateWithout}
 use Rattle.rules.specs.Blocked.{condemned, stateSpared}
-use Rattle.rules.proofs.Words.Tests.{T-dec, T-true, T-false}
+use Rattle.theorems.proofs.Words.Tests.{T-dec, T-true, T-false}
 use borrow.Author.Tests.{ne-eqb}
-use Rattle.rules.proofs.Words.Lists.{any←, any-none, keep→, keep←, map-In, In-map, upTo-In, reverse-In, In-reverse}
-use Rattle.rules.proofs.Steps.Redundancy.{Fate, stays, loses, leaves, fate, shortened-same, shortened-short, shortened-deleted}
-use Rattle.rules.proofs.Steps.Blocking.{spare-same, spare-gone}
+use Rattle.theorems.proofs.Words.Lists.{any←, any-none, keep→, keep←, map-In, In-map, upTo-In, reverse-In, In-reverse}
+use Rattle.theorems.proofs.Steps.Redundancy.{Fate, stays, loses, leaves, fate, shortened-same, shortened-short, shortened-deleted}
+use Rattle.theorems.proofs.Steps.Blocking.{spare-same, spare-gone}
 use Rattle.links.specs.Plan.{Plan, start, EntryOf, Planned}
 use Rattle.links.specs.Ground.{Ground, taken}
 use Rattle.links.specs.Shown.{shownRow, shown, Ready}

@@ -10,8 +10,8 @@ use lib.Dec.{T, eqb, eqb→eq}
 use lib.IntN.{ℤ, pos}
 use Rattle.rules.specs.Lists.{any}
 use Rattle.rules.specs.Blocked.{agree}
-use Rattle.rules.proofs.Words.Tests.{T-true, T-false, T-and}
-use Rattle.rules.proofs.Words.Lists.{any→, any←}
+use Rattle.theorems.proofs.Words.Tests.{T-true, T-false, T-and}
+use Rattle.theorems.proofs.Words.Lists.{any→, any←}
 use Rattle.links.specs.Head.{itemOf, head}
 use Rattle.links.specs.Plan.{lo, hi, EntryOf, Header, start}
 use Rattle.links.specs.Ground.{Ground, Tidy, Within, taken, Fresh, Holds}

@@ -10,8 +10,8 @@ use lib.Dec.{T, eqb, leb, ltb, eqb→eq, leb→le, ltb→lt, lt→ltb, le→leb,
 use lib.IntN.{ℤ, pos}
 use Rattle.rules.specs.Lists.{any, all, from}
 use Rattle.rules.specs.Blocked.{agree}
-use Rattle.rules.proofs.Words.Tests.{T-true, T-false, T-and, and-T, T-imp, imp-T, eq→eqb}
-use Rattle.rules.proofs.Words.Lists.{any→, any←, any-none, none-any, all→, all←, In-from, from-In}
+use Rattle.theorems.proofs.Words.Tests.{T-true, T-false, T-and, and-T, T-imp, imp-T, eq→eqb}
+use Rattle.theorems.proofs.Words.Lists.{any→, any←, any-none, none-any, all→, all←, In-from, from-In}
 use Rattle.links.specs.Head.{itemOf, head}
 use Rattle.links.specs.Column.{at, without}
 use Rattle.links.specs.Plan.{Plan, lo, hi, EntryOf, Header, start}
