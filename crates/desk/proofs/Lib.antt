@@ -4,5 +4,6 @@ pub mod HandingOver
 pub mod Solving
 pub mod Checking
 pub mod Thinning
+pub mod NeverSeventeen
 pub mod Reading
 pub mod OneOutcome

@@ -39,7 +39,7 @@ blank = resultLists (replicate 64 0) (replicate 256 0) (replicate 256 0) (replic
 
 -- Room that is long enough
 
-room-enough : (n E M : ℕ) → n ≤ 64 → E ≤ 1024 → M ≤ 256 → T (not (shortRoom n E M deskRoom))
+pub room-enough : (n E M : ℕ) → n ≤ 64 → E ≤ 1024 → M ≤ 256 → T (not (shortRoom n E M deskRoom))
 unfolding shortRoom deskRoom
 room-enough n E M a b c =
     rw (le-ltb 1346 (n + 2 + E + M) (omega arith), le-ltb 65 (n + 1) (omega arith)) tt
