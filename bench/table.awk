@@ -6,38 +6,16 @@ BEGIN { FS = "\t" }
 
 {
     key = $2 FS $3
-    if (!(key in seen)) {
-        seen[key] = 1
+    if (!(key in entries)) {
         keys[++count] = key
-        if (!($2 in known)) {
-            known[$2] = 1
-            names[++families] = $2
-        }
-        items[key] = $5; options[key] = $6; entries[key] = $7; module[key] = $4
+        if ($3 == 0) names[++families] = $2
+        module[key] = $4; items[key] = $5; options[key] = $6; entries[key] = $7
         answer[key] = $8; rounds[key] = $9; left[key] = $10
     }
 }
 $1 == "times" { ours[key] = $12; rust[key] = $13; timed = 1 }
 $1 == "counts" { our_count[key] = $11; rust_count[key] = $12; kept_count[key] = $13; counted = 1 }
-$1 == "heap" { our_asks[key] = $11; rust_asks[key] = $12; rust_bytes[key] = $13 }
-
-function ratio(a, b) { return b > 0 ? sprintf("%.2f", a / b) : "-" }
-function worst(list_a, list_b, k, most) {
-    for (k = 1; k <= count; k++)
-        if (list_b[keys[k]] > 0 && list_a[keys[k]] / list_b[keys[k]] > most) {
-            most = list_a[keys[k]] / list_b[keys[k]]
-            at = keys[k]
-        }
-    sub(FS, " ", at)
-    return sprintf("%.3f", most)
-}
-
-# x such that the time grows as entries to the power x, from the smallest size to the largest
-function power(list, name, a, b) {
-    a = name FS 0
-    b = name FS 2
-    return list[a] > 0 && list[b] > 0 ? sprintf("%.2f", log(list[b] / list[a]) / log(entries[b] / entries[a])) : "-"
-}
+$1 == "heap" { our_asks += $11; rust_asks[key] = $12; rust_bytes[key] = $13 }
 
 function thousands(x, s) {
     s = sprintf("%d", x)
@@ -45,35 +23,53 @@ function thousands(x, s) {
     return s
 }
 
-function by_family(k, name, s, key, line) {
-    print "| Family | Entries | Time, ours / Rust | Instructions, ours / Rust | Growth of ours | of the Rust |"
+function ratio(a, b) { return b > 0 ? sprintf("%.2f", a / b) : "-" }
+
+# The ratios of a family at its three sizes.
+function ratios(a, b, name) { return ratio(a[name FS 0], b[name FS 0]) " · " ratio(a[name FS 1], b[name FS 1]) " · " ratio(a[name FS 2], b[name FS 2]) }
+
+# The power of the count of entries by which `list` grows, from the smallest size to the largest.
+function power(list, name, a, b) {
+    a = name FS 0
+    b = name FS 2
+    return list[a] > 0 ? sprintf("%.2f", log(list[b] / list[a]) / log(entries[b] / entries[a])) : "-"
+}
+
+# The highest ratio, and where it is.
+function worst(a, b, k, most, at) {
+    for (k = 1; k <= count; k++)
+        if (b[keys[k]] > 0 && a[keys[k]] / b[keys[k]] > most) {
+            most = a[keys[k]] / b[keys[k]]
+            at = keys[k]
+        }
+    split(at, part, FS)
+    return sprintf("%.2f (%s, %s entries)", most, part[1], thousands(entries[at]))
+}
+
+function by_family(k, name) {
+    print "| Family | Entries, three sizes | Time, ours / Rust | Instructions, ours / Rust | Growth, ours | Growth, Rust |"
     print "|---|---|---|---|---|---|"
     for (k = 1; k <= families; k++) {
         name = names[k]
-        line = ""
-        for (s = 0; s < 3; s++) line = line (s ? " · " : "") thousands(entries[name FS s])
-        printf "| %s | %s |", name, line
-        line = ""
-        for (s = 0; s < 3; s++) line = line (s ? " · " : "") ratio(ours[name FS s], rust[name FS s])
-        printf " %s |", line
-        line = ""
-        for (s = 0; s < 3; s++) line = line (s ? " · " : "") ratio(our_count[name FS s], rust_count[name FS s])
-        printf " %s | %s | %s |\n", line, timed ? power(ours, name) : power(our_count, name), timed ? power(rust, name) : power(rust_count, name)
+        printf "| %s | %s · %s · %s |", name, thousands(entries[name FS 0]), thousands(entries[name FS 1]), thousands(entries[name FS 2])
+        printf " %s | %s |", ratios(ours, rust, name), ratios(our_count, rust_count, name)
+        if (timed) print " " power(ours, name) " | " power(rust, name) " |"
+        else print " " power(our_count, name) " | " power(rust_count, name) " |"
     }
 }
 
-function by_problem(k, key, f) {
-    print "| Family | Items | Options | Entries | Module | Answer | Rounds | Options left | Ours, µs | Rust, µs | Ours, instr. | Rust, instr. | Rust asks for memory |"
+function by_problem(k, key, part) {
+    print "| Family | Items | Options | Entries | Module | Answer | Rounds | Options left | Ours, µs | Rust, µs | Ours, instructions | Rust, instructions | Rust, allocations |"
     print "|---|---|---|---|---|---|---|---|---|---|---|---|---|"
     for (k = 1; k <= count; k++) {
         key = keys[k]
-        split(key, f, FS)
-        printf "| %s | %s | %s | %s | %s | %s | %s | %s |", f[1], thousands(items[key]), thousands(options[key]), thousands(entries[key]), module[key], answer[key], thousands(rounds[key]), thousands(left[key])
-        printf " %s | %s |", timed ? sprintf("%.1f", ours[key]) : "-", timed ? sprintf("%.1f", rust[key]) : "-"
-        if (counted)
-            printf " %s | %s | %s times, %s bytes |\n", thousands(our_count[key]), thousands(rust_count[key]), thousands(rust_asks[key]), thousands(rust_bytes[key])
-        else
-            print " - | - | - |"
+        split(key, part, FS)
+        printf "| %s | %s | %s | %s | %s |", part[1], thousands(items[key]), thousands(options[key]), thousands(entries[key]), module[key]
+        printf " %s | %s | %s |", answer[key], thousands(rounds[key]), thousands(left[key])
+        if (timed) printf " %.1f | %.1f |", ours[key], rust[key]
+        else printf " - | - |"
+        if (counted) print " " thousands(our_count[key]) " | " thousands(rust_count[key]) " | " thousands(rust_asks[key]) ", " thousands(rust_bytes[key]) " bytes |"
+        else print " - | - | - |"
     }
 }
 
@@ -82,10 +78,9 @@ END {
     print ""
     by_problem()
     print ""
-    if (timed) print "Highest ratio of times: " worst(ours, rust) " (" at ")."
+    if (timed) print "Highest ratio of times: " worst(ours, rust) "."
     if (counted) {
-        print "Highest ratio of instructions: " worst(our_count, rust_count) " (" at "); " worst(our_count, kept_count) " (" at ") if the Rust need not give its memory back."
-        for (k = 1; k <= count; k++) asked += our_asks[keys[k]]
-        print "Ours asks for memory " asked " times."
+        print "Highest ratio of instructions: " worst(our_count, rust_count) "; " worst(our_count, kept_count) " against the Rust without giving its memory back."
+        print "Allocations of ours, in all problems together: " our_asks "."
     }
 }

@@ -31,6 +31,10 @@ refuse-not : (number place : ℕ) (b : Bool) → number ≢ 17 → Not17 (refuse
 refuse-not number place true n = n
 refuse-not number place false n = tt
 
+-- a check of another number, and what comes behind it
+check-not : (number place : ℕ) (b : Bool) (y : Option Refusal) → number ≢ 17 → (refuse number place b ≡ none → Not17 y) → Not17 (orElse (refuse number place b) y)
+check-not number place b y n k = either-not (refuse number place b) y (refuse-not number place b n) k
+
 refuse-at-not : (number : ℕ) (o : Option ℕ) → number ≢ 17 → Not17 (refuseAt number o)
 refuse-at-not number none n = tt
 refuse-at-not number (some place) n = n
@@ -44,10 +48,10 @@ module _ (np n colour : ℕ) where
   entry-not : (i : ℕ) (seen : List ℕ) (e : Entry) → Not17 (checkEntry np n colour i seen e)
   unfolding checkEntry
   entry-not i seen e =
-      either-not (refuse 19 i (not (ltb (e .item) n))) _ (refuse-not 19 i _ (λ u. absurd (omega arith))) λ a.
-      either-not (refuse 20 i (ltb colour (e .colour))) _ (refuse-not 20 i _ (λ u. absurd (omega arith))) λ b.
-      either-not (refuse 21 i (ltb (e .item) np && ltb 0 (e .colour))) _ (refuse-not 21 i _ (λ u. absurd (omega arith))) λ c.
-      either-not (refuse 22 i (mem (e .item) seen)) none (refuse-not 22 i _ (λ u. absurd (omega arith))) λ d. tt
+      check-not 19 i (not (ltb (e .item) n)) _ (λ u. absurd (omega arith)) λ a.
+      check-not 20 i (ltb colour (e .colour)) _ (λ u. absurd (omega arith)) λ b.
+      check-not 21 i (ltb (e .item) np && ltb 0 (e .colour)) _ (λ u. absurd (omega arith)) λ c.
+      check-not 22 i (mem (e .item) seen) none (λ u. absurd (omega arith)) λ d. tt
 
   option-not : (i : ℕ) (seen : List ℕ) (o : List Entry) → Not17 (checkOption np n colour i seen o)
   option-not i seen [] = tt
@@ -68,15 +72,15 @@ never-seventeen ragged np ns cap items colours ends results =
     let n = np + ns in
     let M = length ends in
     let E = length items in
-    either-not (refuse 10 0 (eqb np 0)) _ (refuse-not 10 0 _ (λ u. absurd (omega arith))) λ a.
-    either-not (refuse 11 0 (ltb 64 n)) _ (refuse-not 11 0 _ (λ u. absurd (omega arith))) λ items-few.
-    either-not (refuse 12 0 (eqb M 0)) _ (refuse-not 12 0 _ (λ u. absurd (omega arith))) λ b.
-    either-not (refuse 13 0 (ltb 256 M)) _ (refuse-not 13 0 _ (λ u. absurd (omega arith))) λ options-few.
-    either-not (refuse 14 0 (ragged || not (eqb E (length colours)))) _ (refuse-not 14 0 _ (λ u. absurd (omega arith))) λ c.
-    either-not (refuse 15 0 (ltb 1024 E)) _ (refuse-not 15 0 _ (λ u. absurd (omega arith))) λ entries-few.
+    check-not 10 0 (eqb np 0) _ (λ u. absurd (omega arith)) λ a.
+    check-not 11 0 (ltb 64 n) _ (λ u. absurd (omega arith)) λ items-few.
+    check-not 12 0 (eqb M 0) _ (λ u. absurd (omega arith)) λ b.
+    check-not 13 0 (ltb 256 M) _ (λ u. absurd (omega arith)) λ options-few.
+    check-not 14 0 (ragged || not (eqb E (length colours))) _ (λ u. absurd (omega arith)) λ c.
+    check-not 15 0 (ltb 1024 E) _ (λ u. absurd (omega arith)) λ entries-few.
     either-not (check16 E ends) _ (ends-not E ends) λ d.
     either-not (refuse 17 0 (shortRoom n E M deskRoom)) _
     (passed-not 0 (shortRoom n E M deskRoom)
     (room-enough n E M (nltb→le 64 n (refuse-none 11 0 (ltb 64 n) items-few)) (nltb→le 1024 E (refuse-none 15 0 (ltb 1024 E) entries-few)) (nltb→le 256 M (refuse-none 13 0 (ltb 256 M) options-few)))) λ e.
-    either-not (refuse 18 0 (shortResults n E M results)) _ (refuse-not 18 0 _ (λ u. absurd (omega arith))) λ f.
+    check-not 18 0 (shortResults n E M results) _ (λ u. absurd (omega arith)) λ f.
     either-not (checkOptions np n 255 0 (cut 0 ends (entriesOf items colours))) none (options-not np n 255 0 (cut 0 ends (entriesOf items colours))) λ g. tt

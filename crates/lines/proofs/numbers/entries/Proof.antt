@@ -1,0 +1,64 @@
+-- `lines::numbers::entries` is safe and ends. The list keeps its length; what is left of the text falls. Assumes nothing.
+use borrow.Author.Needs.{needs}
+use Prim.Native.Nat.{_-_}
+use mathlib.Core.Path.{_≡_}
+use lib.ListN.{length}
+use Rattle.lines.proofs.numbers.entries.Statement.{statement}
+use Rattle.lines.proofs.numbers.entries.Tie as tie
+
+abbrev Inv-loop : tie.InvT-loop
+Inv-loop t colour l₀ at₀ k₀ l at k = length l ≡ length l₀
+
+abbrev μ-loop : tie.MeasureT-loop
+μ-loop t colour l₀ at₀ k₀ l at k = length t - k
+
+loop-holds : tie.Need-loop-holds Inv-loop μ-loop
+loop-holds c = search needs
+
+shared-slice-read-b : tie.Need-shared-slice-read-b Inv-loop μ-loop
+shared-slice-read-b c = search needs
+
+wanted-requires : tie.Need-wanted-requires Inv-loop μ-loop
+wanted-requires c κs = search needs
+
+put-digit-requires : tie.Need-put-digit-requires Inv-loop μ-loop
+put-digit-requires c κs = search needs
+
+step-requires : tie.Need-step-requires Inv-loop μ-loop
+step-requires c κs = search needs
+
+add-k : tie.Need-add-k Inv-loop μ-loop
+add-k c = search needs
+
+loop-less : tie.Need-loop-less Inv-loop μ-loop
+loop-less c = search needs
+
+loop-again : tie.Need-loop-again Inv-loop μ-loop
+loop-again c = search needs
+
+complete-requires : tie.Need-complete-requires Inv-loop μ-loop
+complete-requires c κs = search needs
+
+same-length : tie.Need-same-length Inv-loop μ-loop
+same-length c = search needs
+
+returns : tie.Need-returns Inv-loop μ-loop
+returns c = search needs
+
+pub entries-spec : {M : Type 1} → statement M
+entries-spec =
+    tie.close
+    (tie.spec
+    Inv-loop
+    μ-loop
+    loop-holds
+    shared-slice-read-b
+    wanted-requires
+    put-digit-requires
+    step-requires
+    add-k
+    loop-less
+    loop-again
+    complete-requires
+    same-length
+    returns)

@@ -1,0 +1,26 @@
+// Lists compared in full.
+
+// Whether a list holds one number only, from a place up to another, as far as it goes.
+pub fn is_all(l: &[u32], from: usize, to: usize, n: u32) -> bool {
+    let mut k = from;
+    while k < l.len() {
+        if (k < to) & (l[k] != n) {
+            return false;
+        }
+        k += 1;
+    }
+    true
+}
+
+// The same of signed numbers, from the first on.
+pub fn is_all_signed(l: &[i32], to: usize, n: i32) -> bool {
+    let mut k = 0;
+    while k < l.len() {
+        let m = l[k];
+        if (k < to) & (m != n) {
+            return false;
+        }
+        k += 1;
+    }
+    true
+}
