@@ -1,4 +1,5 @@
 // A case of the input.
+use crate::renumber::renumber;
 use crate::rule;
 use crate::run::Counts;
 use crate::run::run;
@@ -89,8 +90,8 @@ fn field(t: &[u8], bars: u32) -> &[u8] {
     between(t, begin, find(t, begin, b'|'))
 }
 
-// Takes a case apart at its bars.
-fn fields(t: &[u8]) {
+// A case of the call.
+fn call(t: &[u8]) {
     let counts = counts_of(field(t, 1));
     if find(t, 0, b'[') < t.len() {
         let options = field(t, 2);
@@ -111,7 +112,9 @@ pub fn line(t: &[u8]) {
     say::text(t);
     if find(t, 0, b'#') == 0 {
         say::text(b"\n");
+    } else if rule::mark(field(t, 1)) == b'r' {
+        renumber(field(t, 1), field(t, 2), field(t, 3), field(t, 4));
     } else {
-        fields(t);
+        call(t);
     }
 }

@@ -1,4 +1,14 @@
 // Lists compared in full.
+use lines::say;
+
+// Names a list that isn't as it must be.
+pub fn is_right(name: &[u8], right: bool) -> bool {
+    if !right {
+        say::text(name);
+        say::text(b" WRONG");
+    }
+    right
+}
 
 // Whether a list holds one number only, from a place up to another, as far as it goes.
 pub fn is_all(l: &[u32], from: usize, to: usize, n: u32) -> bool {

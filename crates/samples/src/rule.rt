@@ -33,7 +33,7 @@ fn fill(l: &mut [u32], letter: u8, n: u32) {
 }
 
 // What tells a field of options or of a rule: the first byte behind the colon in the alphabet, a bracket or a letter; 0, if there is none.
-fn mark(t: &[u8]) -> u8 {
+pub fn mark(t: &[u8]) -> u8 {
     let mut k = 0;
     while k < t.len() {
         let b = t[k];

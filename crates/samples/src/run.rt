@@ -1,6 +1,7 @@
 // One call, on lists that hold a pattern first, and what came back.
 use crate::compare::is_all;
 use crate::compare::is_all_signed;
+use crate::compare::is_right;
 use crate::show;
 use checking::room::Lengths;
 use lines::parts::front;
@@ -53,15 +54,6 @@ fn written_by(answer: Answer) -> Wrote {
             entries: 0,
         },
     }
-}
-
-// Names a list that isn't as it must be.
-fn is_right(name: &[u8], right: bool) -> bool {
-    if !right {
-        say::text(name);
-        say::text(b" WRONG");
-    }
-    right
 }
 
 // A list of the result: its front, and whether it holds the pattern behind it.
