@@ -1,5 +1,7 @@
 // The numbers of a text: plain, `0 1 4 2`, or the options of a problem as document 01 writes them, `[0 1 4:1],[2]`, with a colour behind a colon.
 // The lists that are read into hold zeros first. What has no room there is left out.
+ghost use mathlib.Core.Path.{_≡_};
+ghost use lib.ListN.{length};
 use crate::text::next;
 
 // How far a text is read: the entries that are complete, whether the one in hand has a digit, and whether its colour is being read.
@@ -75,7 +77,9 @@ fn step(at: Place, b: u8) -> Place {
 }
 
 // Reads the plain numbers and the items of a text, or else the colours, 0 where there is none; says how many entries there are.
-pub fn entries(t: &[u8], colour: bool, l: &mut [u32]) -> usize {
+pub fn entries(t: &[u8], colour: bool, l: &mut [u32]) -> usize
+    ensures { λ r. ⌜ length (now (l .exit)) ≡ length (now (l .entry)) ⌝ }
+{
     let mut at = Place {
         entries: 0,
         open: false,
@@ -110,7 +114,9 @@ fn put_end(l: &mut [u32], m: usize, b: u8, end: usize) -> usize {
 }
 
 // Reads the ends of the options; says how many there are.
-pub fn ends(t: &[u8], l: &mut [u32]) -> usize {
+pub fn ends(t: &[u8], l: &mut [u32]) -> usize
+    ensures { λ r. ⌜ length (now (l .exit)) ≡ length (now (l .entry)) ⌝ }
+{
     let mut at = Place {
         entries: 0,
         open: false,

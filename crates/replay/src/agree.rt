@@ -50,7 +50,7 @@ fn is_result(
     after_crate(stored, e, kept, primaries, items) == stored.len()
 }
 
-pub fn agrees(
+pub(crate) fn agrees(
     answer: Answer,
     stored: &[u32],
     kept: &[u32],

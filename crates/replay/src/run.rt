@@ -1,7 +1,7 @@
 // The call, in room for 1,024 items, 1,024 entries and 256 options: no stored problem that passes the first checks has more.
 use crate::agree::agrees;
 
-pub fn run(
+pub(crate) fn run(
     np: u32,
     ns: u32,
     cap: u32,

@@ -32,7 +32,7 @@ fn answer_at(l: &[u32]) -> usize {
 }
 
 // Whether the calls give the stored answer.
-pub fn agrees(l: &[u32]) -> bool {
+pub(crate) fn agrees(l: &[u32]) -> bool {
     let colours = behind(l, 4);
     let ends = behind(l, colours);
     let answer = behind(l, ends);
@@ -48,7 +48,7 @@ pub fn agrees(l: &[u32]) -> bool {
 }
 
 // Which outcome is stored: 0 reduced and settled, 1 reduced and not settled, 2 to 4 infeasible by cause 1 to 3, 5 refused.
-pub fn kind(l: &[u32]) -> usize {
+pub(crate) fn kind(l: &[u32]) -> usize {
     let at = answer_at(l);
     let number = number_at(l, at);
     if number == 0 {
@@ -62,6 +62,6 @@ pub fn kind(l: &[u32]) -> usize {
 }
 
 // Who answered: 6 the Rust, 7 the rules.
-pub fn who(l: &[u32]) -> usize {
+pub(crate) fn who(l: &[u32]) -> usize {
     if number_at(l, 0) == 0 { 6 } else { 7 }
 }

@@ -3,7 +3,7 @@
 use lines::parts::number_at;
 use lines::say;
 
-pub fn add(tally: &mut [u32], k: usize) {
+pub(crate) fn add(tally: &mut [u32], k: usize) {
     if k < tally.len() {
         let n = tally[k];
         tally[k] = std::num::wrapping_add_u32(n, 1);
@@ -11,7 +11,7 @@ pub fn add(tally: &mut [u32], k: usize) {
 }
 
 // Counts a line that differs, and writes it, if it is the first.
-pub fn judge(t: &[u8], agrees: bool, tally: &mut [u32]) {
+pub(crate) fn judge(t: &[u8], agrees: bool, tally: &mut [u32]) {
     if agrees {
         return;
     }
@@ -34,7 +34,7 @@ fn total(tally: &[u32], from: usize, to: usize) -> u32 {
     sum
 }
 
-pub fn show(tally: &[u32]) {
+pub(crate) fn show(tally: &[u32]) {
     let read = total(tally, 0, 6);
     let differ = number_at(tally, 8);
     say::number(b"; read: ", read);

@@ -108,7 +108,7 @@ fn call(t: &[u8]) {
 }
 
 // A line of the input: a heading, or a case.
-pub fn line(t: &[u8]) {
+pub(crate) fn line(t: &[u8]) {
     say::text(t);
     if find(t, 0, b'#') == 0 {
         say::text(b"\n");

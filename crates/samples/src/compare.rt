@@ -2,7 +2,7 @@
 use lines::say;
 
 // Names a list that isn't as it must be.
-pub fn is_right(name: &[u8], right: bool) -> bool {
+pub(crate) fn is_right(name: &[u8], right: bool) -> bool {
     if !right {
         say::text(name);
         say::text(b" WRONG");
@@ -11,7 +11,7 @@ pub fn is_right(name: &[u8], right: bool) -> bool {
 }
 
 // Whether a list holds one number only, from a place up to another, as far as it goes.
-pub fn is_all(l: &[u32], from: usize, to: usize, n: u32) -> bool {
+pub(crate) fn is_all(l: &[u32], from: usize, to: usize, n: u32) -> bool {
     let mut k = from;
     while k < l.len() {
         if (k < to) & (l[k] != n) {
@@ -23,7 +23,7 @@ pub fn is_all(l: &[u32], from: usize, to: usize, n: u32) -> bool {
 }
 
 // The same of signed numbers, from the first on.
-pub fn is_all_signed(l: &[i32], to: usize, n: i32) -> bool {
+pub(crate) fn is_all_signed(l: &[i32], to: usize, n: i32) -> bool {
     let mut k = 0;
     while k < l.len() {
         let m = l[k];

@@ -46,7 +46,7 @@ fn one(t: &[u8]) -> u32 {
 }
 
 // The fields are the count of primaries, the kept list, the items and the length of the list for the outcome.
-pub fn renumber(primaries: &[u8], kept: &[u8], items: &[u8], length: &[u8]) {
+pub(crate) fn renumber(primaries: &[u8], kept: &[u8], items: &[u8], length: &[u8]) {
     let mut k = [0u32; 16];
     let mut i = [0u32; 16];
     let n = numbers::entries(kept, false, &mut k);

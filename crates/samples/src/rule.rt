@@ -33,7 +33,7 @@ fn fill(l: &mut [u32], letter: u8, n: u32) {
 }
 
 // What tells a field of options or of a rule: the first byte behind the colon in the alphabet, a bracket or a letter; 0, if there is none.
-pub fn mark(t: &[u8]) -> u8 {
+pub(crate) fn mark(t: &[u8]) -> u8 {
     let mut k = 0;
     while k < t.len() {
         let b = t[k];
@@ -54,7 +54,7 @@ fn filled(letter: u8, t: &[u8], l: &mut [u32]) -> usize {
 }
 
 // Reads a field's list, and says how long it is.
-pub fn items(t: &[u8], l: &mut [u32]) -> usize {
+pub(crate) fn items(t: &[u8], l: &mut [u32]) -> usize {
     let letter = mark(t);
     if letter < b'a' {
         numbers::entries(t, false, l)
@@ -64,7 +64,7 @@ pub fn items(t: &[u8], l: &mut [u32]) -> usize {
 }
 
 // The same, for the colours of options.
-pub fn colours(t: &[u8], l: &mut [u32]) -> usize {
+pub(crate) fn colours(t: &[u8], l: &mut [u32]) -> usize {
     if mark(t) == b'[' {
         numbers::entries(t, true, l)
     } else {
@@ -73,7 +73,7 @@ pub fn colours(t: &[u8], l: &mut [u32]) -> usize {
 }
 
 // The same, for their ends.
-pub fn ends(t: &[u8], l: &mut [u32]) -> usize {
+pub(crate) fn ends(t: &[u8], l: &mut [u32]) -> usize {
     if mark(t) == b'[' {
         numbers::ends(t, l)
     } else {

@@ -12,7 +12,7 @@ use rules::answer::Answer;
 
 // What the lists must be like after an answer: how many numbers stand at the front of the lists of the result, and whether the working lists
 // are zero or hold the pattern.
-pub struct Wrote {
+pub(crate) struct Wrote {
     pub cleared: bool,
     pub kept: usize,
     pub options: usize,
@@ -107,14 +107,14 @@ fn room(
 }
 
 // np, ns and cap.
-pub struct Counts {
+pub(crate) struct Counts {
     pub np: u32,
     pub ns: u32,
     pub cap: u32,
 }
 
 // The call, and the line's second half. The lists that are lent are as long as `lent` says, up to what the figures ask for.
-pub fn run(counts: Counts, lent: Lengths, items: &[u32], colours: &[u32], ends: &[u32]) {
+pub(crate) fn run(counts: Counts, lent: Lengths, items: &[u32], colours: &[u32], ends: &[u32]) {
     let mut heads = [70007i32; 21506];
     let mut up = [70007u32; 21506];
     let mut down = [70007u32; 21506];

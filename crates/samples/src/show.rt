@@ -26,7 +26,7 @@ fn cut_short(length: usize, sum: u64) {
 }
 
 // A list, by its name.
-pub fn list(name: &[u8], l: &[u32]) {
+pub(crate) fn list(name: &[u8], l: &[u32]) {
     say::text(name);
     let mut sum: u64 = 0;
     let mut k = 0;
@@ -42,7 +42,7 @@ pub fn list(name: &[u8], l: &[u32]) {
 }
 
 // The answer: its number, and its values in the order of document 01's table.
-pub fn answer(a: Answer) {
+pub(crate) fn answer(a: Answer) {
     match a {
         Answer::Reduced {
             primaries,

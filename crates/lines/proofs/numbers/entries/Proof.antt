@@ -1,4 +1,4 @@
--- `lines::numbers::entries` is safe and ends. The list keeps its length; what is left of the text falls. Assumes nothing.
+-- `lines::numbers::entries` meets its contract: the list keeps its length. What is left of the text falls. Assumes nothing.
 use borrow.Author.Needs.{needs}
 use Prim.Native.Nat.{_-_}
 use mathlib.Core.Path.{_≡_}

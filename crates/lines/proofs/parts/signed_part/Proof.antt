@@ -1,7 +1,9 @@
--- `lines::parts::signed_part` is safe: a part is as long as it is said to be. Assumes nothing.
+-- `lines::parts::signed_part` meets its contract: a list that is no longer than n is its own front. Assumes nothing.
 use borrow.Author.Needs.{needs}
 use native.Mathlib.Omega.{arith}
+use mathlib.Core.Path.{sym}
 use lib.ListN.{length-take}
+use lib.Seq.{take-all}
 use Rattle.lines.proofs.parts.signed_part.Statement.{statement}
 use Rattle.lines.proofs.parts.signed_part.Tie as tie
 
@@ -12,7 +14,7 @@ returns : tie.Need-returns
 returns c = search needs
 
 returns-2 : tie.Need-returns-2
-returns-2 c = search needs
+returns-2 c = sym (take-all (c .before .args .n) (c .before .args .l .now) (omega arith))
 
 pub signed-part-spec : {M : Type 1} → statement M
 signed-part-spec = tie.close (tie.spec slice-aggregate-result returns returns-2)
