@@ -9,7 +9,7 @@ use mathlib.Core.List.{List}
 use lib.ListN.{length, set, length-set}
 use lib.Seq.{getD-set-same, getD-set-other, lt-length-set}
 use lib.IntN.{ℤ, pos, negsuc}
-use Rattle.links.specs.Head.{itemOf, head}
+use Rattle.links.specs.Head.{itemOf, belowZero, head, Growing}
 use Rattle.links.specs.Column.{at, without, Tied, Ring}
 use Rattle.links.specs.Plan.{Plan, start, EntryOf, Header, Planned}
 use Rattle.links.specs.Ground.{tally, Edge, Tidy}
@@ -178,17 +178,21 @@ module _ (P : Plan) (W : Planned P) where
       }
 
       -- what putting it there asks of the lists
-      pub entry-small : (P .col x < 1048576) × (x < 1048576) × (at up (P .col x) < 1048576) × (itemOf (head heads (P .col x)) + 1 < 1048576)
+      pub entry-small : (P .col x < 1048576) × (x < 1048576) × (at up (P .col x) < 1048576)
       entry-small =
           let a = L .ring .tied (at up (P .col x)) (L .ring .tied (P .col x) c-on .above-on) .inside in
+          (omega (arith, before, inside, W .small), omega (arith, inside, W .small), omega (arith, a, W .small))
+
+      growing : Growing heads (P .col x)
+      growing =
           let t = tally-more in
           let s = tally-small P (below P (x + 1)) (P .col x) in
-          (omega (arith, before, inside, W .small), omega (arith, inside, W .small), omega (arith, a, W .small), omega (arith, length-was, t, s, W .small))
+          (room, omega (arith, length-was, t, s, W .small), ap belowZero (L .counts (P .col x) c-header))
 
-      pub entry-in : (P .col x < length heads) × (P .col x < length up) × (at up (P .col x) < length down)
+      pub entry-in : Growing heads (P .col x) × (P .col x < length up) × (at up (P .col x) < length down)
       entry-in =
           let a = L .ring .tied (at up (P .col x)) (L .ring .tied (P .col x) c-on .above-on) .inside in
-          (room, omega (arith, before, inside, L .ring .ups), omega (arith, a, L .ring .downs))
+          (growing, omega (arith, before, inside, L .ring .ups), omega (arith, a, L .ring .downs))
 
       pub node-in : (x < length heads) × (x < length up) × (x < length down) × (x < length tints)
       node-in = (omega (arith, inside, L .heads-in), omega (arith, inside, L .ring .ups), omega (arith, inside, L .ring .downs), omega (arith, inside, L .tints-in))

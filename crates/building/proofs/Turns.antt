@@ -6,7 +6,7 @@ use mathlib.Core.Bool.{true}
 use mathlib.Core.List.{List}
 use lib.ListN.{length, set}
 use lib.IntN.{ℤ, negsuc}
-use Rattle.links.specs.Head.{itemOf, head}
+use Rattle.links.specs.Head.{Growing}
 use Rattle.links.specs.Column.{at}
 use Rattle.links.specs.Plan.{Plan}
 use Rattle.building.specs.Laid.{Laid}
@@ -23,18 +23,18 @@ module _ (P : Plan) (p a b : ℕ) (items colours : List ℕ) (heads₀ : List �
   col-is : P .col x ≡ i
   col-is = spelled .col ∙ sym item
 
-  fill-small : (i < 1048576) × (x < 1048576) × (at up i < 1048576) × (itemOf (head heads i) + 1 < 1048576)
-  fill-small = subst (λ (c : ℕ). (c < 1048576) × (x < 1048576) × (at up c < 1048576) × (itemOf (head heads c) + 1 < 1048576)) col-is (entry-small P (F .planned) x heads up down tints L (spelled .entry))
+  fill-small : (i < 1048576) × (x < 1048576) × (at up i < 1048576)
+  fill-small = subst (λ (c : ℕ). (c < 1048576) × (x < 1048576) × (at up c < 1048576)) col-is (entry-small P (F .planned) x heads up down tints L (spelled .entry))
 
-  fill-in : (i < length heads) × (i < length up) × (at up i < length down)
-  fill-in = subst (λ (c : ℕ). (c < length heads) × (c < length up) × (at up c < length down)) col-is (entry-in P (F .planned) x heads up down tints L (spelled .entry))
+  fill-in : Growing heads i × (i < length up) × (at up i < length down)
+  fill-in = subst (λ (c : ℕ). Growing heads c × (c < length up) × (at up c < length down)) col-is (entry-in P (F .planned) x heads up down tints L (spelled .entry))
 
   fill-node : (x < length heads) × (x < length up) × (x < length down) × (x < length tints)
   fill-node = node-in P (F .planned) x heads up down tints L (spelled .entry)
 
   -- what putting the entry there asks for
-  pub fill-asks : ((i < 1048576) × (x < 1048576) × (at up i < 1048576) × (itemOf (head heads i) + 1 < 1048576))
-      × (((i < length heads) × (i < length up) × (at up i < length down)) × ((x < length heads) × (x < length up) × (x < length down) × (x < length tints)))
+  pub fill-asks : ((i < 1048576) × (x < 1048576) × (at up i < 1048576))
+      × ((Growing heads i × (i < length up) × (at up i < length down)) × ((x < length heads) × (x < length up) × (x < length down) × (x < length tints)))
   fill-asks = (fill-small, (fill-in, fill-node))
 
   pub fill-next : (heads′ : List ℤ) (up′ down′ tints′ : List ℕ) → heads′ ≡ endHeads heads i x → up′ ≡ endUp up i x → down′ ≡ endDown up down i x → tints′ ≡ set tints x (at colours j)

@@ -7,7 +7,7 @@ ghost use mathlib.Core.Path.{_≡_};
 ghost use Prim.Native.Nat.{ℕ, _+_, _-_, _<_, _≤_};
 ghost use lib.ListN.{length, set};
 ghost use lib.IntN.{pos, negsuc};
-ghost use Rattle.links.specs.Head.{itemOf, head};
+ghost use Rattle.links.specs.Head.{itemOf, head, Growing};
 ghost use Rattle.links.specs.Column.{at};
 ghost use Rattle.links.specs.Plan.{Plan};
 ghost use Rattle.rules.specs.Problem.{Figures, problemOf};
@@ -66,8 +66,8 @@ pub fn append(
     i: usize,
     c: u32,
 )
-    requires { ⌜ (i < 1048576) × (x < 1048576) × (at (now up) i < 1048576) × (itemOf (head (now heads) i) + 1 < 1048576) ⌝ }
-    requires { ⌜ (i < length (now heads)) × (i < length (now up)) × (at (now up) i < length (now down)) ⌝ }
+    requires { ⌜ (i < 1048576) × (x < 1048576) × (at (now up) i < 1048576) ⌝ }
+    requires { ⌜ Growing (now heads) i × (i < length (now up)) × (at (now up) i < length (now down)) ⌝ }
     requires { ⌜ (x < length (now heads)) × (x < length (now up)) × (x < length (now down)) × (x < length (now tints)) ⌝ }
     ensures heads { λ r. ⌜ now (heads .exit) ≡ set (set (now (heads .entry)) i (pos (itemOf (head (now (heads .entry)) i) + 1))) x (pos i) ⌝ }
     ensures up { λ r. ⌜ now (up .exit) ≡ set (set (now (up .entry)) x (at (now (up .entry)) i)) i x ⌝ }
@@ -101,13 +101,22 @@ pub fn put_entries(
     ensures { λ r. ⌜ ((P : Plan) → Filling P p a b (now (items .entry)) (now (colours .entry)) (now (heads .entry)) (now (up .entry)) (now (down .entry)) (now (tints .entry))
         → Laid P (p + 1 + (b - a)) (now (heads .exit)) (now (up .exit)) (now (down .exit)) (now (tints .exit))) ⌝ }
 {
-    let mut x = p + 1;
+    // x never wraps. As a sum that might, it stays a counter of its own, where the compiler would else keep six pointers in its place.
+    let mut x = (p + 1) as u32;
     let mut j = a;
     while j < b {
         let i = link(items, j) + 1;
         let c = colours[j];
-        append(&mut *heads, &mut *up, &mut *down, &mut *tints, x, i, c);
-        x += 1;
+        append(
+            &mut *heads,
+            &mut *up,
+            &mut *down,
+            &mut *tints,
+            x as usize,
+            i,
+            c,
+        );
+        x = std::num::wrapping_add_u32(x, 1);
         j += 1;
     }
 }

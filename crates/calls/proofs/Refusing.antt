@@ -1,6 +1,5 @@
 -- The two ways out of the call: what a check refuses, and what the core answers. Assumes nothing.
-use Prim.Native.Nat.{ℕ, _≤_}
-use native.Mathlib.Omega.{arith}
+use Prim.Native.Nat.{ℕ}
 use mathlib.Core.Path.{_≡_, refl, sym, ap, _∙_}
 use mathlib.Core.Bool.{false}
 use Rattle.rules.specs.Problem.{Figures, figures, problemOf}
@@ -15,14 +14,6 @@ use Rattle.checking.specs.declared.room.Lengths.{Lengths}
 use Rattle.checking.specs.declared.check.Check.{Check}
 use Rattle.checking.specs.declared.check.Check.the-variants.{Passed, Refused}
 use Rattle.checking.proofs.Telling.{Told, refuses, passes}
-
--- the figures of the type are the paper's, so no more than the checks can take
-pub within-paper : {f : Figures} → f ≡ figures → (f .items ≤ 1024) × (f .options ≤ 4096) × (f .entries ≤ 16384)
-within-paper e =
-    let i = ap (λ (f : Figures). f .items) e in
-    let o = ap (λ (f : Figures). f .options) e in
-    let n = ap (λ (f : Figures). f .entries) e in
-    (omega arith, omega arith, omega arith)
 
 module _ (h : Handed) (c : Check) {f : Figures} {lent : Lengths} (told : Told f false h lent c) (same : f ≡ figures) (lengths : Lent lent (h .room) (h .results)) where
   -- a refusal writes nothing

@@ -1,5 +1,5 @@
 -- What a caller learns of the whole table, once it says which room and which result lists are meant. Assumes nothing.
-use Prim.Native.Nat.{ℕ}
+use Prim.Native.Nat.{ℕ, _≤_}
 use mathlib.Core.Path.{_≡_, sym, ap, _∙_}
 use mathlib.Core.Bool.{Bool}
 use mathlib.Core.Option.{none, some}
@@ -10,6 +10,11 @@ use Rattle.checking.specs.Lent.{Lent}
 use Rattle.checking.specs.declared.room.Lengths.{Lengths}
 use Rattle.checking.specs.declared.check.Check.{Check}
 use Rattle.checking.specs.declared.check.Check.the-variants.{Passed, Refused}
+
+-- figures that are these are no more than the checks can take, since these are
+pub within-paper : (g : Figures) → (g .items ≤ 1024) × (g .options ≤ 4096) × (g .entries ≤ 16384) → {f : Figures} → f ≡ g
+    → (f .items ≤ 1024) × (f .options ≤ 4096) × (f .entries ≤ 16384)
+within-paper g small e = rw e small
 
 -- the promise of `refusal`, of what is handed in with any room and result lists of these lengths
 abbrev pub Told : Figures → Bool → Handed → Lengths → Check → Type 0

@@ -34,17 +34,20 @@ fn check_entry(
             place: place,
         };
     }
-    if colour > most {
-        return Check::Refused {
-            number: 20,
-            place: place,
-        };
-    }
-    if (item < np) & (colour > 0) {
-        return Check::Refused {
-            number: 21,
-            place: place,
-        };
+    // 20 and 21 refuse no entry without a colour
+    if colour > 0 {
+        if colour > most {
+            return Check::Refused {
+                number: 20,
+                place: place,
+            };
+        }
+        if item < np {
+            return Check::Refused {
+                number: 21,
+                place: place,
+            };
+        }
     }
     if marks[item as usize] == mark {
         return Check::Refused {

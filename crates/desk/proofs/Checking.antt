@@ -1,20 +1,11 @@
--- The checks at the desk's figures, with the desk's own room: what a caller hands them, and what their figures are. Assumes nothing.
-use Prim.Native.Nat.{ℕ, _≤_}
-use native.Mathlib.Omega.{arith}
-use mathlib.Core.Path.{_≡_, refl, sym, ap}
+-- The checks with the desk's own room: the lengths that a caller hands them. Assumes nothing.
+use Prim.Native.Nat.{ℕ}
+use mathlib.Core.Path.{_≡_, refl, sym}
 use lib.ListN.{length}
-use Rattle.rules.specs.Problem.{Figures}
 use Rattle.rules.specs.Checks.{Results}
 use Rattle.checking.specs.Lent.{Lent}
 use Rattle.words.specs.Bytes.{numbersOf}
-use Rattle.desk.specs.Desk.{deskFigures, deskRoom, numbersIn}
-
-pub within-paper : {f : Figures} → f ≡ deskFigures → (f .items ≤ 1024) × (f .options ≤ 4096) × (f .entries ≤ 16384)
-within-paper e =
-    let i = ap (λ (f : Figures). f .items) e in
-    let o = ap (λ (f : Figures). f .options) e in
-    let n = ap (λ (f : Figures). f .entries) e in
-    (omega arith, omega arith, omega arith)
+use Rattle.desk.specs.Desk.{deskRoom, numbersIn}
 
 -- the lengths of the desk's room, and the whole fours of the byte lists
 pub desk-lent : (bytes : Results) {kept ends numbers items colours : ℕ} → kept ≡ length (numbersOf (bytes .kept)) → ends ≡ length (numbersOf (bytes .ends))

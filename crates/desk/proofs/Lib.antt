@@ -7,3 +7,4 @@ pub mod Thinning
 pub mod NeverSeventeen
 pub mod Reading
 pub mod OneOutcome
+pub mod AsNumbers

@@ -10,7 +10,7 @@ use borrow.Author.Tests.{eq-eqb}
 use lib.ListN.{length, set, length-set}
 use lib.Seq.{getD-set-other, ext-getD}
 use lib.IntN.{ℤ, pos}
-use Rattle.links.specs.Head.{itemOf, head}
+use Rattle.links.specs.Head.{itemOf, head, Growing}
 use Rattle.links.specs.Column.{at, cutUp, cutDown, tieUp, tieDown, Tied}
 use Rattle.links.specs.Ground.{Ground, Tidy, Within, cutOne, taken, Holds}
 use Rattle.links.proofs.Stores.{same?, read-set}
@@ -112,7 +112,7 @@ module _ (g : Ground) (t : Tidy g) (x : ℕ) (xs : List ℕ) (r : Rising g (x �
           let i = node-in g t x w in
           (omega (arith, t .planned .small), omega (arith, k .ups, t .ring .ups), omega (arith, k .downs, t .ring .downs), rw up-is up-in, rw down-is down-in)
 
-      pub more-in : (g .plan .col x < length heads) × (itemOf (head heads (g .plan .col x)) + 1 < 1048576)
+      pub more-in : Growing heads (g .plan .col x)
       more-in = rw (k .heads-are) (more-asks g t x w xs (rising-fresh g xs t (r .2)) (rising-once g x xs r))
 
       -- a link that is not written now: as it was, unless its target is still away

@@ -6,7 +6,7 @@ use mathlib.Core.Logic.{_≢_}
 use mathlib.Core.List.{List, _∷_, _++_}
 use lib.ListN.{length, set}
 use lib.IntN.{ℤ, pos}
-use Rattle.links.specs.Head.{itemOf, head}
+use Rattle.links.specs.Head.{itemOf, head, Growing}
 use Rattle.links.specs.Column.{at, tieUp, tieDown}
 use Rattle.links.specs.Ground.{Ground}
 use Rattle.links.specs.Row.{others}
@@ -94,7 +94,7 @@ module _ {g : Ground} {rr : ℕ} {rest : List ℕ} (a : Behind g rr rest) where
         pub relink-needs : (nn < 1048576) × (nn < length up) × (nn < length down) × (at up nn < length down) × (at down nn < length up)
         relink-needs = relink-asks g (a .tidy) nn left r k
 
-        pub more-needs : {cc : ℕ} → cc ≡ itemOf (head heads nn) → (cc < length heads) × (itemOf (head heads cc) + 1 < 1048576)
+        pub more-needs : {cc : ℕ} → cc ≡ itemOf (head heads nn) → Growing heads cc
         more-needs e = rw (e ∙ column) (more-in g (a .tidy) nn left r k)
 
         pub full : {cc : ℕ} → cc ≡ itemOf (head heads nn) → RoundBack g rr rest (set heads cc (pos (itemOf (head heads cc) + 1))) (tieUp up down nn) (tieDown up down nn) (nn + 1)

@@ -7,11 +7,11 @@ use mathlib.Core.List.{List, [], _∷_, List·Memᴰ as In}
 use lib.ListN.{length, set}
 use lib.Seq.{getD-set-other, set-comm}
 use lib.IntN.{ℤ, pos}
-use Rattle.links.specs.Head.{itemOf, head}
+use Rattle.links.specs.Head.{itemOf, head, Growing}
 use Rattle.links.specs.Plan.{Plan}
 use Rattle.links.specs.Ground.{Ground, Tidy, Within, cutOne, taken, Fresh}
 use Rattle.links.proofs.Stores.{same?}
-use Rattle.links.proofs.Grounds.{back-heads, col-in, cut-length, length-some, length-small, taken-lengths, taken-plan, taken-tidy, within-taken}
+use Rattle.links.proofs.Grounds.{back-heads, cut-growing, taken-plan, taken-tidy, within-taken}
 
 -- the column of item i is one shorter
 abbrev less : List ℤ → ℕ → List ℤ
@@ -57,13 +57,10 @@ module _ (g : Ground) (t : Tidy g) (x : ℕ) (w : Within g x) (xs : List ℕ) (f
   h-within : Within (taken g xs) x
   h-within = within-taken g xs t f w n
 
-  pub more-asks : (g .plan .col x < length (taken (cutOne g x) xs .heads)) × (itemOf (head (taken (cutOne g x) xs .heads) (g .plan .col x)) + 1 < 1048576)
+  pub more-asks : Growing (taken (cutOne g x) xs .heads) (g .plan .col x)
   more-asks =
       rw (taken-later g x xs)
-      (subst (λ (P : Plan). (P .col x < length (cutOne (taken g xs) x .heads)) × (itemOf (head (cutOne (taken g xs) x .heads) (P .col x)) + 1 < 1048576)) (taken-plan g xs) (
-        omega (arith, taken-lengths (taken g xs) (x ∷ []) .0, col-in (taken g xs) h-tidy x h-within),
-        omega (arith, cut-length (taken g xs) h-tidy x h-within, length-some (taken g xs) h-tidy x h-within, length-small (taken g xs) h-tidy x h-within),
-      ))
+      (subst (λ (P : Plan). Growing (cutOne (taken g xs) x .heads) (P .col x)) (taken-plan g xs) (cut-growing (taken g xs) h-tidy x h-within))
 
   pub more-back : set (taken (cutOne g x) xs .heads) (g .plan .col x) (pos (itemOf (head (taken (cutOne g x) xs .heads) (g .plan .col x)) + 1)) ≡ taken g xs .heads
   more-back =

@@ -13,7 +13,7 @@ use lib.Seq.{getD-set-same, getD-set-other, set-set, set-getD}
 use lib.IntN.{ℤ, pos, negsuc}
 use Rattle.rules.specs.Promises.{distinct}
 use Rattle.theorems.proofs.Words.Distinct.{distinct→}
-use Rattle.links.specs.Head.{itemOf, head}
+use Rattle.links.specs.Head.{itemOf, belowZero, head, Growing}
 use Rattle.links.specs.Column.{at, cutUp, cutDown, tieUp, tieDown, without, Ring}
 use Rattle.links.specs.Plan.{Plan, start, lo, hi, EntryOf, Header, Planned}
 use Rattle.links.specs.Ground.{Ground, tally, Short, Edge, Tidy, Within, cutHeads, cutOne, taken, Fresh, Holds}
@@ -140,6 +140,13 @@ module _ (g : Ground) (t : Tidy g) where
     pub cut-length : itemOf (head (cutOne g x .heads) (g .plan .col x)) ≡ itemOf (head (g .heads) (g .plan .col x)) - 1
     unfolding cutOne
     cut-length = ap itemOf (getD-set-same (g .heads) (g .plan .col x) (pos (itemOf (head (g .heads) (g .plan .col x)) - 1)) (pos 0) col-in)
+
+    -- its column may grow again
+    pub cut-growing : Growing (cutOne g x .heads) (g .plan .col x)
+    unfolding cutOne
+    cut-growing =
+        let c = g .plan .col x in
+        (rw length-set col-in, omega (arith, cut-length, length-some, length-small), ap belowZero (getD-set-same (g .heads) c (pos (itemOf (head (g .heads) c) - 1)) (pos 0) col-in))
 
     pub back-heads : set (cutOne g x .heads) (g .plan .col x) (pos (itemOf (head (cutOne g x .heads) (g .plan .col x)) + 1)) ≡ g .heads
     unfolding cutOne

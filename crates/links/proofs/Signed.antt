@@ -8,7 +8,7 @@ use mathlib.Core.List.{List}
 use borrow.Author.Tests.{ne-eqb, le-ltb, ltb-true, ltb-false}
 use lib.Dec.{T, eqb}
 use lib.ListN.{getD}
-use lib.IntN.{ℤ, pos, negsuc, natAbs, _-ℤ_}
+use lib.IntN.{ℤ, pos, negsuc, natAbs, _+ℤ_, _-ℤ_}
 use lib.Signed.{ltZ, nonNeg, mag}
 use mir.Syntax.{w32, w64}
 use mir.Val.{Fits, SFits, toZ, ofZ}
@@ -84,3 +84,19 @@ zero-is (negsuc k) h = ne-eqb (2 ^ 32 - suc k) 0 (λ e. omega (arith, h, e))
 pub below-is : (z : ℤ) → mag z < 2 ^ 31 → ltZ (kept z) (pos 0) ≡ belowZero z
 below-is (pos i) h = rw (kept-same (pos i) h) (le-ltb i 0 (omega arith))
 below-is (negsuc k) h = rw (kept-same (negsuc k) h)
+
+-- one less than a head above 0, and one more than a head that isn't below
+pub one-less : (z : ℤ) → itemOf z < 1048576 → 0 < itemOf z → kept z -ℤ pos 1 ≡ pos (itemOf z - 1)
+one-less (pos i) small above = rw (kept-same (pos i) (omega (arith, small)), le-ltb i 1 (omega (arith, above)))
+one-less (negsuc k) small above = absurd (omega (arith, above))
+
+pub one-more : (z : ℤ) → itemOf z + 1 < 1048576 → belowZero z ≡ false → kept z +ℤ pos 1 ≡ pos (itemOf z + 1)
+one-more (pos i) small e = rw (kept-same (pos i) (omega (arith, small)))
+one-more (negsuc k) small e = absurd (true≢false e)
+
+-- a number that stands for a head is small, and is kept
+pub stored-fits : {z : ℤ} (i : ℕ) → i < 1048576 → z ≡ pos i → SFits w32 z
+stored-fits i small e = rw e (record { sfits = omega (arith, small) })
+
+pub stored-is : {z : ℤ} (i : ℕ) → i < 1048576 → z ≡ pos i → kept z ≡ pos i
+stored-is i small e = ap kept e ∙ kept-same (pos i) (omega (arith, small))

@@ -1,9 +1,10 @@
 -- What a head says: the item of an entry, the length of a column, or the option before a boundary. Assumes nothing.
-use Prim.Native.Nat.{ℕ}
+use Prim.Native.Nat.{ℕ, _+_, _<_}
+use mathlib.Core.Path.{_≡_}
 use mathlib.Core.Bool.{Bool, true, false}
 use mathlib.Core.List.{List}
 use lib.Dec.{eqb}
-use lib.ListN.{getD}
+use lib.ListN.{length, getD}
 use lib.IntN.{ℤ, pos, negsuc}
 
 -- above 0 the item + 1, else 0
@@ -28,3 +29,7 @@ belowZero (negsuc k) = true
 -- the head at a node
 abbrev pub head : List ℤ → ℕ → ℤ
 head heads x = getD heads x (pos 0)
+
+-- the head at i counts a column that may grow by one: it is there, small, and not below 0
+abbrev pub Growing : List ℤ → ℕ → Type 0
+Growing heads i = (i < length heads) × (itemOf (head heads i) + 1 < 1048576) × (belowZero (head heads i) ≡ false)

@@ -1,12 +1,11 @@
-// Columns: an entry is taken out, and put back, with the length of its column.
+// Columns: an entry is taken out, and put back, with the length of its column. A column's length is counted on its head itself, which isn't
+// below 0, so that no test stands in the loops that count.
 ghost use mathlib.Core.Path.{_≡_};
 ghost use Prim.Native.Nat.{ℕ, _+_, _-_, _<_};
 ghost use lib.ListN.{length, set};
 ghost use lib.IntN.{ℤ, pos};
-ghost use Rattle.links.specs.Head.{itemOf, head};
+ghost use Rattle.links.specs.Head.{itemOf, head, Growing};
 ghost use Rattle.links.specs.Column.{at, cutUp, cutDown, tieUp, tieDown};
-use crate::head::item_at;
-use crate::head::put_item;
 
 // The neighbour of node x in a list of links.
 pub fn link(list: &[u32], x: usize) -> usize
@@ -51,16 +50,15 @@ pub fn fewer(heads: &mut [i32], i: usize) -> usize
     requires { ⌜ (i < length (now heads)) × (itemOf (head (now heads) i) < 1048576) × (0 < itemOf (head (now heads) i)) ⌝ }
     ensures { λ r. ⌜ (now (heads .exit) ≡ set (now (heads .entry)) i (pos (itemOf (head (now (heads .entry)) i) - 1))) × (r ≡ itemOf (head (now (heads .entry)) i) - 1) ⌝ }
 {
-    let t = item_at(&*heads, i) - 1;
-    put_item(&mut *heads, i, t);
-    t
+    let t = heads[i] - 1;
+    heads[i] = t;
+    t as usize
 }
 
 // The column of item i is one longer.
 pub fn more(heads: &mut [i32], i: usize)
-    requires { ⌜ (i < length (now heads)) × (itemOf (head (now heads) i) + 1 < 1048576) ⌝ }
+    requires { ⌜ Growing (now heads) i ⌝ }
     ensures { λ r. ⌜ now (heads .exit) ≡ set (now (heads .entry)) i (pos (itemOf (head (now (heads .entry)) i) + 1)) ⌝ }
 {
-    let t = item_at(&*heads, i) + 1;
-    put_item(&mut *heads, i, t);
+    heads[i] = heads[i] + 1;
 }

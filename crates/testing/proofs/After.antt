@@ -7,7 +7,7 @@ use mathlib.Core.Bool.{Bool, true, false, cond, false≢true}
 use mathlib.Core.List.{List, [], _∷_, _++_, List·Memᴰ as In, List·Memᴰ·head as here, List·Memᴰ·tail as next}
 use lib.ListN.{length, set}
 use lib.IntN.{ℤ, pos}
-use Rattle.links.specs.Head.{itemOf, head}
+use Rattle.links.specs.Head.{itemOf, head, Growing}
 use Rattle.links.specs.Column.{at, cutUp, cutDown, tieUp, tieDown}
 use Rattle.links.specs.Plan.{Plan, lo, hi, EntryOf, Header, start}
 use Rattle.links.specs.Ground.{Ground, Tidy, Within, cutOne, taken, Fresh, Holds}
@@ -16,7 +16,7 @@ use Rattle.links.proofs.Stores.{same?}
 use Rattle.links.proofs.Rings.{without→, without←, up-stays, down-stays}
 use Rattle.links.proofs.Plans.{entry-no-header}
 use Rattle.links.proofs.Rows.{walked-taken}
-use Rattle.links.proofs.Grounds.{taken-head, node-in, col-in, length-some, length-small, cut-up-in, cut-down-in, cut-length, taken-lengths, back-up, back-down, back-heads, taken-append, taken-tidy, fresh-front, fresh-rest, fresh-append, taken-on, on-taken, within-taken}
+use Rattle.links.proofs.Grounds.{taken-head, node-in, col-in, length-some, length-small, cut-up-in, cut-down-in, cut-growing, taken-lengths, back-up, back-down, back-heads, taken-append, taken-tidy, fresh-front, fresh-rest, fresh-append, taken-on, on-taken, within-taken}
 use Rattle.testing.specs.Undo.{after}
 
 pub taken-after : (g : Ground) (xs : List ℕ) → taken g xs ≡ after g xs
@@ -131,10 +131,8 @@ module _ (g : Ground) (xs : List ℕ) (x : ℕ) (t : Tidy g) (f : Fresh g (xs ++
   one-lengths : (length heads ≡ length (after g xs .heads)) × (length up ≡ length (after g xs .up)) × (length down ≡ length (after g xs .down))
   one-lengths = let r = taken-lengths (after g xs) (x ∷ []) in (ap length heads-one ∙ r .0, ap length up-one ∙ r .1, ap length down-one ∙ r .2)
 
-  pub more-asks : (g .plan .col x < length heads) × (itemOf (head heads (g .plan .col x)) + 1 < 1048576)
-  more-asks =
-      let c : itemOf (head heads (g .plan .col x)) ≡ itemOf (head (after g xs .heads) (g .plan .col x)) - 1 = rw heads-one (cut-length (after g xs) before-tidy x last-within) in
-      (omega (arith, one-lengths .0, col-in (after g xs) before-tidy x last-within), omega (arith, length-some (after g xs) before-tidy x last-within, length-small (after g xs) before-tidy x last-within))
+  pub more-asks : Growing heads (g .plan .col x)
+  more-asks = rw heads-one (cut-growing (after g xs) before-tidy x last-within)
 
   pub relink-asks : (x < 1048576) × (x < length up) × (x < length down) × (at up x < length down) × (at down x < length up)
   unfolding cutOne

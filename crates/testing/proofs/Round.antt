@@ -6,7 +6,7 @@ use mathlib.Core.Logic.{_≢_}
 use mathlib.Core.List.{List, [], _∷_, _++_}
 use lib.ListN.{length, set}
 use lib.IntN.{ℤ, pos}
-use Rattle.links.specs.Head.{itemOf, head}
+use Rattle.links.specs.Head.{itemOf, head, Growing}
 use Rattle.links.specs.Column.{at, tieUp, tieDown}
 use Rattle.links.specs.Plan.{lo, hi, EntryOf}
 use Rattle.links.specs.Ground.{Ground, Tidy, taken, Fresh, Holds}
@@ -71,7 +71,7 @@ module _ (g : Ground) (p k : ℕ) (heads : List ℤ) (up down : List ℕ) (m : H
       holds-one : Holds (taken g (walked g p k ++ (k ∷ []))) heads up down
       holds-one = subst (λ (xs : List ℕ). Holds (taken g xs) heads up down) one-more (m .holds)
 
-      pub half-more : (itemOf (head heads k) < length heads) × (itemOf (head heads (itemOf (head heads k))) + 1 < 1048576)
+      pub half-more : Growing heads (itemOf (head heads k))
       half-more = rw item-is (more-asks g (walked g p k) k (m .tidy) fresh-one heads up down holds-one)
 
       pub half-relink : (k < 1048576) × (k < length up) × (k < length down) × (at up k < length down) × (at down k < length up)

@@ -13,3 +13,4 @@ pub mod SecondRun
 pub mod RefusalPlaces
 pub mod Causes
 pub mod Bounds
+pub mod ResultBounds

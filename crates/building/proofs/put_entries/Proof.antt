@@ -1,5 +1,5 @@
 -- `building::put_entries` meets its contract: below node x everything is laid out. Assumes nothing.
-use Prim.Native.Nat.{ℕ, _+_, _-_, _≤_}
+use Prim.Native.Nat.{ℕ, _+_, _-_, _<_, _≤_}
 use native.Mathlib.Omega.{arith}
 use mathlib.Core.Path.{_≡_, refl, _∙_, ap, subst}
 use lib.ListN.{length}
@@ -22,6 +22,9 @@ abbrev μ-loop : tie.MeasureT-loop
 add-x : tie.Need-add-x Inv-loop μ-loop
 add-x c = omega (arith, c .before .before .before .before .before .pre .0 .3)
 
+cast-x : tie.Need-cast-x Inv-loop μ-loop
+cast-x c = record { fits = omega (arith, c .before .before .before .before .before .pre .0 .3) }
+
 loop-holds : tie.Need-loop-holds Inv-loop μ-loop
 loop-holds c = (refl, refl, refl, refl, omega arith, omega (arith, c .before .before .before .before .before .pre .0 .0), omega arith, λ P F. F .laid)
 
@@ -29,7 +32,11 @@ link-requires : tie.Need-link-requires Inv-loop μ-loop
 link-requires c κs = omega (arith, c .loop-test .taken, c .before .before .before .before .before .before .before .pre .0 .1)
 
 add-i : tie.Need-add-i Inv-loop μ-loop
-add-i c = let s = c .before .before .before .before .before .before .before .before in let g = s .args in let P = s .pre .1 .0 in let F = s .pre .1 .1 in let l = c .before .before .loop in
+add-i c =
+    let g = c .before .before .before .before .before .before .before .before .args in
+    let P = c .before .before .before .before .before .before .before .before .pre .1 .0 in
+    let F = c .before .before .before .before .before .before .before .before .pre .1 .1 in
+    let l = c .before .before .loop in
     let i = ap (λ (z : ℕ). z + 1) (c .link .ensures) in
     omega (arith, fill-asks P (g .p) (g .a) (g .b) (g .items .now) (g .colours .now) (g .heads .now) (g .up .now) (g .down .now) (g .tints .now) F (l .heads) (l .up) (l .down) (l .tints) (l .x) (l .j) (c .link .result + 1) (l .inv .7 P F) (l .inv .4) (c .before .loop-test .taken) (l .inv .6) i .0 .0)
 
@@ -39,36 +46,52 @@ mul-c c = omega (arith, c .before .loop-test .taken, c .before .before .before .
 shared-slice-read-c : tie.Need-shared-slice-read-c Inv-loop μ-loop
 shared-slice-read-c c = omega (arith, c .before .before .loop-test .taken, c .before .before .before .before .before .before .before .before .before .pre .0 .2)
 
+cast-append : tie.Need-cast-append Inv-loop μ-loop
+cast-append c =
+    let g = c .before .before .before .before .before .before .before .before .before .before .before .before .before .args in
+    let P = c .before .before .before .before .before .before .before .before .before .before .before .before .before .pre .1 .0 in
+    let F = c .before .before .before .before .before .before .before .before .before .before .before .before .before .pre .1 .1 in
+    let l = c .before .before .before .before .before .before .before .loop in
+    let i = ap (λ (z : ℕ). z + 1) (c .before .before .before .before .before .link .ensures) in
+    record { fits = omega (arith, fill-asks P (g .p) (g .a) (g .b) (g .items .now) (g .colours .now) (g .heads .now) (g .up .now) (g .down .now) (g .tints .now) F (l .heads) (l .up) (l .down) (l .tints) (l .x) (l .j) (c .before .before .before .before .before .link .result + 1) (l .inv .7 P F) (l .inv .4) (c .before .before .before .before .before .before .loop-test .taken) (l .inv .6) i .0 .1) }
+
 append-requires : tie.Need-append-requires Inv-loop μ-loop
-append-requires c κs = let s = c .before .before .before .before .before .before .before .before .before .before .before .before .before in let g = s .args in let P = s .pre .1 .0 in let F = s .pre .1 .1 in let l = c .before .before .before .before .before .before .before .loop in
+append-requires c κs =
+    let g = c .before .before .before .before .before .before .before .before .before .before .before .before .before .args in
+    let P = c .before .before .before .before .before .before .before .before .before .before .before .before .before .pre .1 .0 in
+    let F = c .before .before .before .before .before .before .before .before .before .before .before .before .before .pre .1 .1 in
+    let l = c .before .before .before .before .before .before .before .loop in
     let i = ap (λ (z : ℕ). z + 1) (c .before .before .before .before .before .link .ensures) in
     fill-asks P (g .p) (g .a) (g .b) (g .items .now) (g .colours .now) (g .heads .now) (g .up .now) (g .down .now) (g .tints .now) F (l .heads) (l .up) (l .down) (l .tints) (l .x) (l .j) (c .before .before .before .before .before .link .result + 1) (l .inv .7 P F) (l .inv .4) (c .before .before .before .before .before .before .loop-test .taken) (l .inv .6) i
 
-add-x-2 : tie.Need-add-x-2 Inv-loop μ-loop
-add-x-2 c = let s = c .before .before .before .before .before .before .before .before .before .before .before .before .before .before .before .before .before .before .before .before .before in let g = s .args in let P = s .pre .1 .0 in let F = s .pre .1 .1 in let l = c .before .before .before .before .before .before .before .before .before .before .before .before .before .before .before .loop in
-    let i = ap (λ (z : ℕ). z + 1) (c .before .before .before .before .before .before .before .before .before .before .before .before .before .link .ensures) in
-    omega (arith, fill-asks P (g .p) (g .a) (g .b) (g .items .now) (g .colours .now) (g .heads .now) (g .up .now) (g .down .now) (g .tints .now) F (l .heads) (l .up) (l .down) (l .tints) (l .x) (l .j) (c .before .before .before .before .before .before .before .before .before .before .before .before .before .link .result + 1) (l .inv .7 P F) (l .inv .4) (c .before .before .before .before .before .before .before .before .before .before .before .before .before .before .loop-test .taken) (l .inv .6) i .0 .1)
+wrapping-add-u32-requires : tie.Need-wrapping-add-u32-requires Inv-loop μ-loop
+wrapping-add-u32-requires c κs = tt
 
 add-j : tie.Need-add-j Inv-loop μ-loop
-add-j c = omega (arith, c .before .before .before .before .before .before .before .before .before .before .before .before .before .before .loop-test .taken, c .before .before .before .before .before .before .before .before .before .before .before .before .before .before .before .before .before .before .before .before .before .pre .0 .2)
+add-j c = omega (arith, c .before .before .before .before .before .before .before .before .before .before .before .before .before .before .before .loop-test .taken, c .before .before .before .before .before .before .before .before .before .before .before .before .before .before .before .before .before .before .before .before .before .before .pre .0 .2)
 
 loop-less : tie.Need-loop-less Inv-loop μ-loop
-loop-less c = omega (arith, c .before .before .before .before .before .before .before .before .before .before .before .before .before .before .loop-test .taken)
+loop-less c = omega (arith, c .before .before .before .before .before .before .before .before .before .before .before .before .before .before .before .loop-test .taken)
 
 loop-again : tie.Need-loop-again Inv-loop μ-loop
-loop-again c = let g = c .before .before .before .before .before .before .before .before .before .before .before .before .before .before .before .before .before .before .before .before .before .args in
-    let l = c .before .before .before .before .before .before .before .before .before .before .before .before .before .before .before .loop in
-    let i = ap (λ (z : ℕ). z + 1) (c .before .before .before .before .before .before .before .before .before .before .before .before .before .link .ensures) in
-    let e = c .before .before .before .before .before .before .before .append .ensures in
-    let k = c .before .before .before .before .before .before .before .append .kept in (
-      k .0 ∙ c .before .before .before .before .before .before .before .before .before .before .before .before .before .before .before .loop .inv .0,
-      k .1 .0 ∙ c .before .before .before .before .before .before .before .before .before .before .before .before .before .before .before .loop .inv .1,
-      k .1 .1 .0 ∙ c .before .before .before .before .before .before .before .before .before .before .before .before .before .before .before .loop .inv .2,
-      k .1 .1 .1 .0 ∙ c .before .before .before .before .before .before .before .before .before .before .before .before .before .before .before .loop .inv .3,
+loop-again c =
+    let g = c .before .before .before .before .before .before .before .before .before .before .before .before .before .before .before .before .before .before .before .before .before .before .args in
+    let P = c .before .before .before .before .before .before .before .before .before .before .before .before .before .before .before .before .before .before .before .before .before .before .pre .1 .0 in
+    let F = c .before .before .before .before .before .before .before .before .before .before .before .before .before .before .before .before .before .before .before .before .before .before .pre .1 .1 in
+    let l = c .before .before .before .before .before .before .before .before .before .before .before .before .before .before .before .before .loop in
+    let i = ap (λ (z : ℕ). z + 1) (c .before .before .before .before .before .before .before .before .before .before .before .before .before .before .link .ensures) in
+    let small : l .x < 1048576 = fill-asks P (g .p) (g .a) (g .b) (g .items .now) (g .colours .now) (g .heads .now) (g .up .now) (g .down .now) (g .tints .now) F (l .heads) (l .up) (l .down) (l .tints) (l .x) (l .j) (c .before .before .before .before .before .before .before .before .before .before .before .before .before .before .link .result + 1) (l .inv .7 P F) (l .inv .4) (c .before .before .before .before .before .before .before .before .before .before .before .before .before .before .before .loop-test .taken) (l .inv .6) i .0 .1 in
+    let next : c .wrapping-add-u32 .result ≡ l .x + 1 = c .wrapping-add-u32 .ensures ∙ omega (arith, small) in
+    let e = c .before .before .before .before .before .before .before .before .append .ensures in
+    let k = c .before .before .before .before .before .before .before .before .append .kept in (
+      k .0 ∙ l .inv .0,
+      k .1 .0 ∙ l .inv .1,
+      k .1 .1 .0 ∙ l .inv .2,
+      k .1 .1 .1 .0 ∙ l .inv .3,
       omega (arith, l .inv .4),
-      omega (arith, c .before .before .before .before .before .before .before .before .before .before .before .before .before .before .loop-test .taken),
-      omega (arith, l .inv .4, l .inv .6),
-      λ P F. fill-next P (g .p) (g .a) (g .b) (g .items .now) (g .colours .now) (g .heads .now) (g .up .now) (g .down .now) (g .tints .now) F (l .heads) (l .up) (l .down) (l .tints) (l .x) (l .j) (c .before .before .before .before .before .before .before .before .before .before .before .before .before .link .result + 1) (l .inv .7 P F) (l .inv .4) (c .before .before .before .before .before .before .before .before .before .before .before .before .before .before .loop-test .taken) (l .inv .6) i _ _ _ _ (e .0) (e .1 .0) (e .1 .1 .0) (e .1 .1 .1),
+      omega (arith, c .before .before .before .before .before .before .before .before .before .before .before .before .before .before .before .loop-test .taken),
+      omega (arith, next, l .inv .4, l .inv .6),
+      λ P F. rw next (fill-next P (g .p) (g .a) (g .b) (g .items .now) (g .colours .now) (g .heads .now) (g .up .now) (g .down .now) (g .tints .now) F (l .heads) (l .up) (l .down) (l .tints) (l .x) (l .j) (c .before .before .before .before .before .before .before .before .before .before .before .before .before .before .link .result + 1) (l .inv .7 P F) (l .inv .4) (c .before .before .before .before .before .before .before .before .before .before .before .before .before .before .before .loop-test .taken) (l .inv .6) i _ _ _ _ (e .0) (e .1 .0) (e .1 .1 .0) (e .1 .1 .1)),
     )
 
 same-length : tie.Need-same-length Inv-loop μ-loop
@@ -97,13 +120,15 @@ put-entries-spec =
     Inv-loop
     μ-loop
     add-x
+    cast-x
     loop-holds
     link-requires
     add-i
     mul-c
     shared-slice-read-c
+    cast-append
     append-requires
-    add-x-2
+    wrapping-add-u32-requires
     add-j
     loop-less
     loop-again

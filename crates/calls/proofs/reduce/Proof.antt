@@ -1,10 +1,11 @@
 -- `calls::reduce` meets its contract. Assumes nothing.
 use Prim.Native.Nat.{ℕ}
+use native.Mathlib.Omega.{arith}
 use mathlib.Core.Path.{refl, ap, _∙_}
 use mathlib.Core.Bool.{false}
 use Rattle.rules.specs.Problem.{figures}
-use Rattle.checking.proofs.Telling.{passes}
-use Rattle.calls.proofs.Refusing.{within-paper, refused, found}
+use Rattle.checking.proofs.Telling.{within-paper, passes}
+use Rattle.calls.proofs.Refusing.{refused, found}
 use borrow.Author.Needs.{needs}
 use Rattle.calls.proofs.reduce.Statement.{statement}
 use Rattle.calls.proofs.reduce.Tie as tie
@@ -13,7 +14,7 @@ figures-requires : tie.Need-figures-requires
 figures-requires c κs = search needs
 
 refusal-requires : tie.Need-refusal-requires
-refusal-requires c κs = within-paper (c .figures .ensures)
+refusal-requires c κs = within-paper figures (omega arith, omega arith, omega arith) (c .figures .ensures)
 
 enum-known-check : tie.Need-enum-known-check
 enum-known-check c = search needs

@@ -1,10 +1,11 @@
 -- `desk::thin::thin` meets its contract. Assumes nothing.
+use native.Mathlib.Omega.{arith}
 use mathlib.Core.Bool.{false}
 use Rattle.rules.specs.Checks.{Results}
 use Rattle.engine.specs.Call.{resultLists}
-use Rattle.checking.proofs.Telling.{refuses, passes}
+use Rattle.checking.proofs.Telling.{within-paper, refuses, passes}
 use Rattle.desk.specs.Desk.{deskFigures}
-use Rattle.desk.proofs.Checking.{within-paper, desk-lent}
+use Rattle.desk.proofs.Checking.{desk-lent}
 use Rattle.desk.proofs.Thinning.{refused-served, accepted, done, handed-back}
 use borrow.Author.Needs.{needs}
 use Rattle.desk.proofs.thin.thin.Statement.{statement}
@@ -29,7 +30,7 @@ desk-figures-requires : tie.Need-desk-figures-requires
 desk-figures-requires c κs = search needs
 
 refusal-requires : tie.Need-refusal-requires
-refusal-requires c κs = within-paper (c .desk-figures .ensures)
+refusal-requires c κs = within-paper deskFigures (omega arith, omega arith, omega arith) (c .desk-figures .ensures)
 
 enum-known-check : tie.Need-enum-known-check
 enum-known-check c = search needs
