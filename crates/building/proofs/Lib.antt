@@ -1,6 +1,7 @@
 pub mod Masks
 pub mod RingEnd
 pub mod Laying
+pub mod Opening
 pub mod Layouts
 pub mod Parts
 pub mod Options

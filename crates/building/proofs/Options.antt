@@ -23,10 +23,11 @@ use Rattle.links.specs.Column.{at}
 use Rattle.links.specs.Plan.{Plan, start, EntryOf, Planned}
 use Rattle.links.proofs.Stores.{less?}
 use Rattle.building.specs.Layout.{sizeOf, firstNode, planFor, planOf}
-use Rattle.building.specs.Laid.{Laid}
+use Rattle.building.specs.Laid.{Laid, Open, closing}
 use Rattle.building.specs.Build.{primaryIn, Cleared, Spelled, Turn, behind, Buildable, Built}
 use Rattle.building.proofs.Layouts.{size-live, first-zero, first-more, planned-for, spelled-col, spelled-tint, spelled-entry, shows-state}
 use Rattle.building.proofs.Laying.{laid-begin, ready-all, tinted-all}
+use Rattle.building.proofs.Opening.{open-laid, last-in, open-end}
 use Rattle.building.proofs.Parts.{endBefore, cut-at, ends-at, getD-slice, entries-at, primary-same, primary-begin}
 
 -- An option takes at most one node more than it has entries, so there are at most as many as all entries and options.
@@ -62,7 +63,7 @@ pub record Place (np ns : ℕ) (items colours ends : List ℕ) (heads : List ℤ
   pub within : k ≤ length ends
   pub from : begin ≡ endBefore 0 ends k
   pub first : planOf (problemOf np ns items colours ends) .first k ≡ p + 1
-  pub laid : Laid (planOf (problemOf np ns items colours ends)) (p + 1) heads up down tints
+  pub so-far : Open (planOf (problemOf np ns items colours ends)) 0 (p + 1) heads up down tints
 
 -- Lists of the same lengths will do as well.
 pub buildable-kept : {f : Figures} {np ns n : ℕ} {items colours ends : List ℕ} {heads heads′ : List ℤ} {up up′ down down′ tints marks marks′ : List ℕ}
@@ -131,7 +132,7 @@ module _ (f : Figures) (np ns n : ℕ) (items colours ends : List ℕ) (heads₀
 
   -- The headers are cleared: option 0 is next.
   pub place-begin : Cleared n heads₀ up₀ down₀ marks₀ → Place np ns items colours ends heads₀ up₀ down₀ tints₀ (n + 1) 0 0
-  place-begin c = record { within = omega arith; from = refl; first = zero-first; laid = rw (sym e) all-clear }
+  place-begin c = record { within = omega arith; from = refl; first = zero-first; so-far = open-laid (planOf a) 0 (n + 1 + 1) (rw (sym e) all-clear) }
     where
       e : start (planOf a) ≡ n + 1 + 1
       e = omega (arith, n-is)
@@ -196,7 +197,7 @@ module _ (f : Figures) (np ns n : ℕ) (items colours ends : List ℕ) (heads₀
 
     turn : Turn (planOf a) np k p begin (at ends k) items colours heads up down tints
     unfolding planFor
-    turn = record { planned = planned; option = k-in; first = here .first; past = past-at; some = some-entry; spelled = spelled-at; laid = here .laid }
+    turn = record { planned = planned; option = k-in; first = here .first; past = past-at; some = some-entry; spelled = spelled-at; so-far = here .so-far }
 
     -- what laying it out asks for, where `end` is what was read
     pub turn-asks : (end : ℕ) → end ≡ at ends k
@@ -216,13 +217,13 @@ module _ (f : Figures) (np ns n : ℕ) (items colours ends : List ℕ) (heads₀
         go false t = omega (arith, next-step, here .first, ap sizeOf (skipped-is t))
 
     pub place-next : (end r : ℕ) → end ≡ at ends k → r ≡ behind np p begin end items → (heads′ : List ℤ) (up′ down′ tints′ : List ℕ)
-        → ((P : Plan) → Turn P np k p begin end items colours heads up down tints → Laid P (r + 1) heads′ up′ down′ tints′)
+        → ((P : Plan) → Turn P np k p begin end items colours heads up down tints → Open P 0 (r + 1) heads′ up′ down′ tints′)
         → Place np ns items colours ends heads′ up′ down′ tints′ r end (k + 1)
     place-next end r e q heads′ up′ down′ tints′ L = record {
       within = omega arith;
       from = e ∙ sym (ap (endBefore 0 ends) (add-one k));
       first = next-first ∙ ap (λ (z : ℕ). z + 1) (sym (q ∙ ap (λ (z : ℕ). behind np p begin z items) e));
-      laid = L (planOf a) (rw e turn);
+      so-far = L (planOf a) (rw e turn);
     }
 
   -- Behind the last option the lists hold the problem.
@@ -231,16 +232,27 @@ module _ (f : Figures) (np ns n : ℕ) (items colours ends : List ℕ) (heads₀
     unfolding planFor
     all-there = let e : k ≡ length (starting a) = omega (arith, here .within, length-s) in sym (here .first) ∙ ap (firstNode (a .n + 2) (starting a)) e
 
-    all-laid : Laid (planOf a) (planOf a .N) heads up down tints
-    all-laid = rw all-there at (here .laid)
+    all-open : Open (planOf a) 0 (planOf a .N) heads up down tints
+    all-open = rw all-there at (here .so-far)
 
-    pub place-end : (marks : List ℕ) → ((i : ℕ) → i ≤ n → at marks i ≡ 0) → Built a n (length ends) heads up down tints marks
+    -- what closing the columns asks for
+    pub place-closes : (n < 1048576) × (n < length up) × ((i : ℕ) → i < n → at up (i + 1) < length down)
+    place-closes = (
+      omega (arith, B .small),
+      omega (arith, all-open .laid .ring .ups, planned .room, n-is),
+      λ i l. last-in (planOf a) planned 0 (planOf a .N) heads up down tints all-open (i + 1) (record { above = omega arith; below = omega (arith, l, n-is) }) (planned .room),
+    )
+
+    all-laid : Laid (planOf a) (planOf a .N) heads up (closing n up down) tints
+    all-laid = subst (λ (i : ℕ). Laid (planOf a) (planOf a .N) heads up (closing i up down) tints) n-is (open-end (planOf a) planned (planOf a .N) (planned .room) heads up tints down all-open)
+
+    pub place-end : (down′ marks : List ℕ) → down′ ≡ closing n up down → ((i : ℕ) → i ≤ n → at marks i ≡ 0) → Built a n (length ends) heads up down′ tints marks
     unfolding planFor
-    place-end marks zeros = record {
-      ready = ready-all (planOf a) planned heads up down tints all-laid;
-      tinted = tinted-all (planOf a) planned heads up down tints all-laid;
+    place-end down′ marks e zeros = rw e (record {
+      ready = ready-all (planOf a) planned heads up (closing n up down) tints all-laid;
+      tinted = tinted-all (planOf a) planned heads up (closing n up down) tints all-laid;
       unmarked = zeros;
       items = a-n;
       options = length-s;
       shows = shows-state (a .n) (starting a) few-nodes few-options items-below once;
-    }
+    })

@@ -19,7 +19,7 @@ use Rattle.links.specs.Plan.{Plan, EntryOf, Planned}
 use Rattle.links.specs.Ground.{Ground}
 use Rattle.links.specs.Shown.{Ready, Tinted, shown}
 use Rattle.building.specs.Layout.{planOf}
-use Rattle.building.specs.Laid.{every, Laid, whole}
+use Rattle.building.specs.Laid.{every, Open, whole}
 
 -- some item of items[a .. b] is primary
 abbrev pub primaryIn : ℕ → ℕ → ℕ → List ℕ → Bool
@@ -42,7 +42,7 @@ pub record Spelled (P : Plan) (x j : ℕ) (items colours : List ℕ) : Type 0 wh
 pub record Filling (P : Plan) (p a b : ℕ) (items colours : List ℕ) (heads : List ℤ) (up down tints : List ℕ) : Type 0 where
   pub planned : Planned P
   pub spelled : (j : ℕ) → a ≤ j → j < b → Spelled P (p + 1 + (j - a)) j items colours
-  pub laid : Laid P (p + 1) heads up down tints
+  pub so-far : Open P 0 (p + 1) heads up down tints
 
 -- Option k is next, behind the boundary p: it has the entries at places a .. b if one of them is primary.
 pub record Turn (P : Plan) (np k p a b : ℕ) (items colours : List ℕ) (heads : List ℤ) (up down tints : List ℕ) : Type 0 where
@@ -52,7 +52,7 @@ pub record Turn (P : Plan) (np k p a b : ℕ) (items colours : List ℕ) (heads 
   pub past : primaryIn np a b items ≡ true → P .past k ≡ p + 1 + (b - a)
   pub some : primaryIn np a b items ≡ true → a < b
   pub spelled : primaryIn np a b items ≡ true → (j : ℕ) → a ≤ j → j < b → Spelled P (p + 1 + (j - a)) j items colours
-  pub laid : Laid P (p + 1) heads up down tints
+  pub so-far : Open P 0 (p + 1) heads up down tints
 
 -- the boundary behind it, where the next option is to go
 abbrev pub behind : ℕ → ℕ → ℕ → ℕ → List ℕ → ℕ

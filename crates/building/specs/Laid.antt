@@ -1,10 +1,11 @@
 -- What the lists hold while the nodes are laid out: the headers, and all that the plan has below a node. Assumes nothing.
-use Prim.Native.Nat.{ℕ, _-_, _<_, _≤_}
+use Prim.Native.Nat.{ℕ, zero, suc, _-_, _<_, _≤_}
 use mathlib.Core.Path.{_≡_}
+use mathlib.Core.Logic.{_⊎_}
 use mathlib.Core.Bool.{Bool, _&&_, _||_}
 use mathlib.Core.List.{List}
 use lib.Dec.{leb, ltb}
-use lib.ListN.{length}
+use lib.ListN.{length, set}
 use lib.IntN.{ℤ, pos, negsuc}
 use Rattle.links.specs.Head.{itemOf, head}
 use Rattle.links.specs.Column.{at, Ring}
@@ -42,6 +43,25 @@ pub record Laid (P : Plan) (x : ℕ) (heads : List ℤ) (up down tints : List �
   -- the boundary before an option, of which no entry need be there yet
   pub spacer : (k : ℕ) → k < P .M → P .first k < P .past k → P .first k ≤ x → itemOf (head heads (P .first k - 1)) ≡ 0
   pub edge : (k : ℕ) → k < P .M → P .first k < P .past k → P .past k < x → Closed P k heads up down
+
+-- y is the last node of a column, of those behind the first i
+pub record Last (P : Plan) (i : ℕ) (up : List ℕ) (y : ℕ) : Type 0 where
+  pub column : ℕ
+  pub header : Header P column
+  pub behind : i < column
+  pub there : y ≡ at up column
+
+-- The lists are laid out but for the way down from the last nodes of those columns, which is written when everything else is there.
+pub record Open (P : Plan) (i x : ℕ) (heads : List ℤ) (up down tints : List ℕ) : Type 0 where
+  pub closed : List ℕ
+  pub laid : Laid P x heads up closed tints
+  pub long : length down ≡ length closed
+  pub same : (y : ℕ) → (at down y ≡ at closed y) ⊎ Last P i up y
+
+-- the ways down when those of the first i columns are written
+abbrev pub closing : ℕ → List ℕ → List ℕ → List ℕ
+closing zero up down = down
+closing (suc i) up down = set (closing i up down) (at up (suc i)) (suc i)
 
 -- everything is in its column
 abbrev pub whole : Plan → List ℤ → List ℕ → List ℕ → Ground

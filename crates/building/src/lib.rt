@@ -11,7 +11,7 @@ ghost use Rattle.links.specs.Head.{itemOf, head, Growing};
 ghost use Rattle.links.specs.Column.{at};
 ghost use Rattle.links.specs.Plan.{Plan};
 ghost use Rattle.rules.specs.Problem.{Figures, problemOf};
-ghost use Rattle.building.specs.Laid.{Laid};
+ghost use Rattle.building.specs.Laid.{Open, closing};
 ghost use Rattle.building.specs.Build.{primaryIn, Cleared, Filling, Turn, behind, Buildable, Built};
 use links::column::link;
 use links::column::more;
@@ -56,7 +56,8 @@ pub fn has_primary(items: &[u32], a: usize, b: usize, np: usize) -> bool
     false
 }
 
-// Puts node x, an entry with colour c, at the end of the column of i.
+// Puts node x, an entry with colour c, at the end of the column of i. The way down from x is left to be written: by the next entry of the
+// column, or when there is no more (`close_columns`). Writing costs more here than all else, and so each link is written once.
 pub fn append(
     heads: &mut [i32],
     up: &mut [u32],
@@ -68,16 +69,15 @@ pub fn append(
 )
     requires { ⌜ (i < 1048576) × (x < 1048576) × (at (now up) i < 1048576) ⌝ }
     requires { ⌜ Growing (now heads) i × (i < length (now up)) × (at (now up) i < length (now down)) ⌝ }
-    requires { ⌜ (x < length (now heads)) × (x < length (now up)) × (x < length (now down)) × (x < length (now tints)) ⌝ }
+    requires { ⌜ (x < length (now heads)) × (x < length (now up)) × (x < length (now tints)) ⌝ }
     ensures heads { λ r. ⌜ now (heads .exit) ≡ set (set (now (heads .entry)) i (pos (itemOf (head (now (heads .entry)) i) + 1))) x (pos i) ⌝ }
     ensures up { λ r. ⌜ now (up .exit) ≡ set (set (now (up .entry)) x (at (now (up .entry)) i)) i x ⌝ }
-    ensures down { λ r. ⌜ now (down .exit) ≡ set (set (now (down .entry)) x i) (at (now (up .entry)) i) x ⌝ }
+    ensures down { λ r. ⌜ now (down .exit) ≡ set (now (down .entry)) (at (now (up .entry)) i) x ⌝ }
     ensures tints { λ r. ⌜ now (tints .exit) ≡ set (now (tints .entry)) x c ⌝ }
 {
     more(&mut *heads, i);
     let q = link(&*up, i);
     put_link(&mut *up, x, q);
-    put_link(&mut *down, x, i);
     put_link(&mut *down, q, x);
     put_link(&mut *up, i, x);
     put_item(&mut *heads, x, i);
@@ -99,7 +99,7 @@ pub fn put_entries(
     requires { ⌜ (a ≤ b) × (b ≤ length (now items)) × (b ≤ length (now colours)) × (p + 1 < 1048576) ⌝ }
     requires { ⌜ ((P : Plan) × Filling P p a b (now items) (now colours) (now heads) (now up) (now down) (now tints)) ⌝ }
     ensures { λ r. ⌜ ((P : Plan) → Filling P p a b (now (items .entry)) (now (colours .entry)) (now (heads .entry)) (now (up .entry)) (now (down .entry)) (now (tints .entry))
-        → Laid P (p + 1 + (b - a)) (now (heads .exit)) (now (up .exit)) (now (down .exit)) (now (tints .exit))) ⌝ }
+        → Open P 0 (p + 1 + (b - a)) (now (heads .exit)) (now (up .exit)) (now (down .exit)) (now (tints .exit))) ⌝ }
 {
     // x never wraps. As a sum that might, it stays a counter of its own, where the compiler would else keep six pointers in its place.
     let mut x = (p + 1) as u32;
@@ -151,7 +151,7 @@ pub fn put_option(
     requires { ⌜ ((P : Plan) × Turn P np k p a b (now items) (now colours) (now heads) (now up) (now down) (now tints)) ⌝ }
     ensures place { λ r. ⌜ r ≡ behind np p a b (now (items .entry)) ⌝ }
     ensures laid { λ r. ⌜ ((P : Plan) → Turn P np k p a b (now (items .entry)) (now (colours .entry)) (now (heads .entry)) (now (up .entry)) (now (down .entry)) (now (tints .entry))
-        → Laid P (r + 1) (now (heads .exit)) (now (up .exit)) (now (down .exit)) (now (tints .exit))) ⌝ }
+        → Open P 0 (r + 1) (now (heads .exit)) (now (up .exit)) (now (down .exit)) (now (tints .exit))) ⌝ }
 {
     if !has_primary(items, a, b, np) {
         return p;
@@ -170,6 +170,18 @@ pub fn put_option(
     let q = p + 1 + (b - a);
     put_spacer(&mut *heads, &mut *up, &mut *down, p, q, k);
     q
+}
+
+// The way down from the last node of each column, to its header.
+pub fn close_columns(up: &[u32], down: &mut [u32], n: usize)
+    requires { ⌜ (n < 1048576) × (n < length (now up)) × ((i : ℕ) → i < n → at (now up) (i + 1) < length (now down)) ⌝ }
+    ensures { λ r. ⌜ now (down .exit) ≡ closing n (now (up .entry)) (now (down .entry)) ⌝ }
+{
+    let mut i = 0;
+    while i < n {
+        i += 1;
+        put_link(&mut *down, link(up, i), i);
+    }
 }
 
 // All of it: headers, and the options in their order. An option without a primary item keeps its number and gets no nodes.
@@ -212,4 +224,5 @@ pub fn init_links(
         begin = end;
         k += 1;
     }
+    close_columns(&*up, &mut *down, n);
 }

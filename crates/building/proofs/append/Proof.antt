@@ -19,9 +19,6 @@ put-link-requires-2 c κs = search needs
 put-link-requires-3 : tie.Need-put-link-requires-3
 put-link-requires-3 c κs = search needs
 
-put-link-requires-4 : tie.Need-put-link-requires-4
-put-link-requires-4 c κs = search needs
-
 put-item-requires : tie.Need-put-item-requires
 put-item-requires c κs = search needs
 
@@ -44,7 +41,10 @@ same-length-4 : tie.Need-same-length-4
 same-length-4 c = search needs
 
 returns : tie.Need-returns
-returns c = (c .before .put-item .ensures ∙ rw (c .before .before .before .before .before .before .before .before .before .before .before .before .before .before .before .before .before .before .before .before .before .before .more .ensures), (c .before .before .before .before .before .put-link4 .ensures ∙ rw (c .before .before .before .before .before .before .before .before .before .before .before .before .before .before .before .before .before .put-link .ensures, c .before .before .before .before .before .before .before .before .before .before .before .before .before .before .before .before .before .before .before .link .ensures), (c .before .before .before .before .before .before .before .before .before .put-link3 .ensures ∙ rw (c .before .before .before .before .before .before .before .before .before .before .before .before .before .put-link2 .ensures, c .before .before .before .before .before .before .before .before .before .before .before .before .before .before .before .before .before .before .before .link .ensures), refl)))
+returns c = (
+  c .before .put-item .ensures ∙ rw (c .before .before .before .before .before .before .before .before .before .before .before .before .before .before .before .before .before .before .more .ensures),
+  (c .before .before .before .before .before .put-link3 .ensures ∙ rw (c .before .before .before .before .before .before .before .before .before .before .before .before .before .put-link .ensures, c .before .before .before .before .before .before .before .before .before .before .before .before .before .before .before .link .ensures), (c .before .before .before .before .before .before .before .before .before .put-link2 .ensures ∙ rw (c .before .before .before .before .before .before .before .before .before .before .before .before .before .before .before .link .ensures), refl)),
+)
 
 pub append-spec : {M : Type 1} → statement M
 append-spec =
@@ -55,7 +55,6 @@ append-spec =
     put-link-requires
     put-link-requires-2
     put-link-requires-3
-    put-link-requires-4
     put-item-requires
     mul-tints
     slice-write-tints

@@ -4,7 +4,7 @@ use native.Mathlib.Omega.{arith}
 use mathlib.Core.Path.{_≡_, refl, _∙_, ap, subst}
 use lib.ListN.{length}
 use Rattle.links.specs.Plan.{Plan}
-use Rattle.building.specs.Laid.{Laid}
+use Rattle.building.specs.Laid.{Open}
 use Rattle.building.specs.Build.{Filling}
 use Rattle.building.proofs.Turns.{fill-asks, fill-next}
 use Rattle.building.proofs.put_entries.Statement.{statement}
@@ -14,7 +14,7 @@ abbrev Inv-loop : tie.InvT-loop
 Inv-loop heads₀ up₀ down₀ tints₀ p a b items colours x₀ j₀ heads up down tints x j =
     (length heads ≡ length heads₀) × (length up ≡ length up₀) × (length down ≡ length down₀) × (length tints ≡ length tints₀)
     × (a ≤ j) × (j ≤ b) × (x ≡ p + 1 + (j - a))
-    × ((P : Plan) → Filling P p a b items colours heads₀ up₀ down₀ tints₀ → Laid P x heads up down tints)
+    × ((P : Plan) → Filling P p a b items colours heads₀ up₀ down₀ tints₀ → Open P 0 x heads up down tints)
 
 abbrev μ-loop : tie.MeasureT-loop
 μ-loop heads₀ up₀ down₀ tints₀ p a b items colours x₀ j₀ heads up down tints x j = b - j
@@ -26,7 +26,7 @@ cast-x : tie.Need-cast-x Inv-loop μ-loop
 cast-x c = record { fits = omega (arith, c .before .before .before .before .before .pre .0 .3) }
 
 loop-holds : tie.Need-loop-holds Inv-loop μ-loop
-loop-holds c = (refl, refl, refl, refl, omega arith, omega (arith, c .before .before .before .before .before .pre .0 .0), omega arith, λ P F. F .laid)
+loop-holds c = (refl, refl, refl, refl, omega arith, omega (arith, c .before .before .before .before .before .pre .0 .0), omega arith, λ P F. F .so-far)
 
 link-requires : tie.Need-link-requires Inv-loop μ-loop
 link-requires c κs = omega (arith, c .loop-test .taken, c .before .before .before .before .before .before .before .pre .0 .1)
@@ -111,7 +111,7 @@ returns c = λ P F.
     let g = c .before .before .before .before .before .before .before .args in
     let l = c .before .loop in
     let e : l .j ≡ g .b = omega (arith, l .inv .5, c .loop-test .left) in
-    subst (λ (z : ℕ). Laid P z (l .heads) (l .up) (l .down) (l .tints)) (l .inv .6 ∙ ap (λ (z : ℕ). g .p + 1 + (z - g .a)) e) (l .inv .7 P F)
+    subst (λ (z : ℕ). Open P 0 z (l .heads) (l .up) (l .down) (l .tints)) (l .inv .6 ∙ ap (λ (z : ℕ). g .p + 1 + (z - g .a)) e) (l .inv .7 P F)
 
 pub put-entries-spec : {M : Type 1} → statement M
 put-entries-spec =

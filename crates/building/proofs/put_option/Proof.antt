@@ -14,7 +14,7 @@ has-primary-requires c κs = let s = c .before .before .before .before .before i
 returns : tie.Need-returns
 returns c = let s = c .before .before .before .before .before .before .before in let g = s .args in let pre = s .pre in
     let none = sym (c .before .has-primary .ensures) ∙ not-true _ (c .if1 .taken) in
-    (ap (λ (t : Bool). cond t (g .p + 1 + (g .b - g .a)) (g .p)) (sym none), λ P t. t .laid)
+    (ap (λ (t : Bool). cond t (g .p + 1 + (g .b - g .a)) (g .p)) (sym none), λ P t. t .so-far)
 
 put-entries-requires : tie.Need-put-entries-requires
 put-entries-requires c κs = let s = c .before .before .before .before .before .before .before .before .before .before .before in let g = s .args in let pre = s .pre in
