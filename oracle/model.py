@@ -59,6 +59,15 @@ def uses(state, c):
     return [k for k in sorted(state) if any(i == c for i, _ in state[k])]
 
 
+def holders(state):
+    """What `uses` gives, for every item in a live option at once: a search for each item takes too long at the full figures."""
+    held = {}
+    for k in sorted(state):
+        for i, _ in state[k]:
+            held.setdefault(i, []).append(k)
+    return held
+
+
 def colour_of(option, c):
     for i, x in option:
         if i == c:
@@ -72,23 +81,35 @@ def cyclic(option, c):
     return option[at + 1:] + option[:at]
 
 
-def the_p(np, state, c):
+def the_p(np, state, held, c):
     best = None
     for p in range(np):
-        held = uses(state, p)
-        if p != c and held and all(colour_of(state[k], c) == 0 for k in held):
-            top = held[-1]
+        if p != c and p in held and all(colour_of(state[k], c) == 0 for k in held[p]):
+            top = held[p][-1]
             met = [i for i, _ in cyclic(state[top], c)].index(p)
             if best is None or (top, met) > best[0]:
                 best = ((top, met), p)
     return None if best is None else best[1]
 
 
-def step(np, state, c):
-    """One item's step; says whether something was removed."""
-    p = the_p(np, state, c)
+def is_rival(v, o, c):
+    for i, x in v:
+        y = colour_of(o, i)
+        if (i == c and x == 0) or (i != c and y is not None and not (x == y and x > 0)):
+            return True
+    return False
+
+
+def is_blocked(np, state, held, o, c):
+    own = {i for i, _ in o}
+    return any(q not in own and q in held and all(is_rival(state[v], o, c) for v in held[q]) for q in range(np))
+
+
+def step(np, state, held, c):
+    """One item's step, from a state and its holders; says whether something was removed."""
+    p = the_p(np, state, held, c)
     if p is not None:
-        for k in uses(state, c):
+        for k in held[c]:
             if colour_of(state[k], p) is not None:
                 state[k] = [x for x in state[k] if x[0] != c]
                 continue
@@ -98,23 +119,7 @@ def step(np, state, c):
                     raise Infeasible(entry[0], 2)
             del state[k]
         return True
-    doomed = []
-    for k in uses(state, c):
-        option = state[k]
-        if option[0] != (c, 0):
-            continue
-        rivals = set()
-        for v in state:
-            for i, x in state[v]:
-                y = colour_of(option, i)
-                if (i == c and x == 0) or (i != c and y is not None and not (x == y and x > 0)):
-                    rivals.add(v)
-        own = {i for i, _ in option}
-        for q in range(np):
-            held = uses(state, q)
-            if q not in own and held and all(v in rivals for v in held):
-                doomed.append(k)
-                break
+    doomed = [k for k in held[c] if state[k][0] == (c, 0) and is_blocked(np, state, held, state[k], c)]
     for k in reversed(doomed):
         for entry in state[k][1:] + state[k][:1]:
             state[k] = [x for x in state[k] if x != entry]
@@ -127,19 +132,24 @@ def step(np, state, c):
 def run(np, n, options, cap):
     """The rounds: ('reduced', state, rounds, settled) or ('infeasible', item, cause, round)."""
     state = {k: list(o) for k, o in enumerate(options) if any(i < np for i, _ in o)}
+    held = holders(state)
     for q in range(np):
-        if not uses(state, q):
+        if q not in held:
             return "infeasible", q, 1, 0
     done = 0
     while done < cap:
         done += 1
         changed = False
         for c in range(n):
-            if uses(state, c):
-                try:
-                    changed = step(np, state, c) or changed
-                except Infeasible as stop:
-                    return ("infeasible",) + stop.args + (done,)
+            if c not in held:
+                continue
+            try:
+                removed = step(np, state, held, c)
+            except Infeasible as stop:
+                return ("infeasible",) + stop.args + (done,)
+            if removed:
+                changed = True
+                held = holders(state)
         if not changed:
             return "reduced", state, done, True
     return "reduced", state, done, False
@@ -159,7 +169,7 @@ def reduce(np, ns, cap, items, colours, ends, room, results, fig=FULL, ragged=Fa
     if end[0] == "infeasible":
         return 1, list(end[1:]), results
     _, state, done, settled = end
-    kept = [c for c in range(n) if uses(state, c)]
+    kept = sorted(holders(state))
     order = sorted(state, key=lambda k: (state[k][0][0], k))
     new = [kept, [], list(order), [], []]
     for k in order:
