@@ -14,7 +14,8 @@ use Rattle.links.specs.Plan.{Plan, lo, EntryOf, Planned}
 use Rattle.links.specs.Shown.{Tinted}
 use Rattle.links.proofs.Stores.{same?, less?}
 use Rattle.links.proofs.Plans.{entry-row, before-no-entry}
-use Rattle.links.proofs.Spans.{from-end, keep-append}
+use Rattle.theorems.proofs.Words.Lists.{keep-append}
+use Rattle.links.proofs.Spans.{from-end}
 use Rattle.condemning.specs.Search.{downTo, Chain}
 
 up-end : (k : ℕ) → upTo (suc k) ≡ upTo k ++ (k ∷ [])

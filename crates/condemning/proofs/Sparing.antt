@@ -4,7 +4,7 @@ use native.Mathlib.Omega.{arith}
 use mathlib.Core.Path.{_≡_, refl, _∙_, ap, sym, subst}
 use mathlib.Core.Logic.{_⊎_, inl, inr, ⊎-elim, _≢_}
 use mathlib.Core.Bool.{Bool, true, false, not, _&&_, cond}
-use mathlib.Core.List.{List, [], _∷_, _++_, map, append-assoc, append-nil, List·Memᴰ as In, List·Memᴰ·head as here, List·Memᴰ·tail as next, Memᴰ·append-left as In-append-l, Memᴰ·append-right as In-append-r}
+use mathlib.Core.List.{List, [], _∷_, _++_, map, append-assoc, append-nil, List·Memᴰ as In, List·Memᴰ·head as here, Memᴰ·append-left as In-append-l, Memᴰ·append-right as In-append-r}
 use lib.Dec.{T, ltb, eqb}
 use lib.ListN.{length}
 use lib.IntN.{ℤ}
@@ -15,14 +15,13 @@ use Rattle.theorems.proofs.Words.Lists.{any-cong, each-append}
 use Rattle.links.specs.Head.{itemOf, head}
 use Rattle.links.specs.Column.{at}
 use Rattle.links.specs.Plan.{Plan, lo, hi, EntryOf, Planned}
-use Rattle.links.specs.Ground.{Ground, Tidy, Within, Holds, Fresh, cutOne, taken}
+use Rattle.links.specs.Ground.{Ground, Tidy, Within, Holds, Fresh, taken}
 use Rattle.links.specs.Row.{span, full, others, walked, firstLive}
 use Rattle.links.specs.Shown.{Ready, Tinted}
 use Rattle.links.specs.Taking.{inColumn, hides, nodeBlocked, firstOut}
 use Rattle.links.proofs.Plans.{entry-from, entry-row, entry-till, entry-no-header, row-mate}
-use Rattle.links.proofs.Rings.{without→}
 use Rattle.links.proofs.Spans.{In-span}
-use Rattle.links.proofs.Grounds.{taken-append, taken-tidy, taken-head, fresh-front, fresh-rest}
+use Rattle.links.proofs.Grounds.{taken-append, taken-tidy, taken-head, fresh-within, fresh-front, fresh-rest}
 use Rattle.links.proofs.Rows.{walked-taken}
 use Rattle.links.proofs.Descending.{column→, on-entry}
 use Rattle.showing.specs.Showing.{fullBefore, deletes, Condemns, condemnedAt}
@@ -43,14 +42,6 @@ down-front f (suc k) = go (f k) refl (down-front f k)
     go true e r = inr (k, omega arith, e, refl)
     go false e (inl r) = inl r
     go false e (inr r) = inr (r .0, omega (arith, r .1), r .2, r .3)
-
--- Each of a list of fresh nodes is in its column before the first is taken.
-fresh-within : (g : Ground) (xs : List ℕ) → Fresh g xs → {y : ℕ} → In y xs → Within g y
-unfolding cutOne
-fresh-within g (x ∷ xs) f (here e) = subst (Within g) (sym e) (f .0)
-fresh-within g (x ∷ xs) f {y} (next m) =
-    let w = fresh-within (cutOne g x) xs (f .1) m in
-    record { entry = w .entry; on = without→ (g .on) x y (w .on) .1; header = without→ (g .on) x (g .plan .col y) (w .header) .1 }
 
 -- The loop is at r: the options `done` are deleted, and nothing was emptied; the chain at r has the rest.
 pub record Deletes (g : Ground) (i np : ℕ) (tints : List ℕ) (heads : List ℤ) (up down : List ℕ) (r : ℕ) : Type 0 where

@@ -3,8 +3,8 @@
 use Prim.Native.Nat.{ℕ, _+_, _<_, _≤_}
 use native.Mathlib.Omega.{arith}
 use mathlib.Core.Path.{_≡_, refl, _∙_, ap, sym, subst}
-use mathlib.Core.Logic.{_⊎_, inl, inr, ⊎-elim, _≢_}
-use mathlib.Core.Bool.{Bool, true, false, true≢false}
+use mathlib.Core.Logic.{⊎-elim, _≢_}
+use mathlib.Core.Bool.{true, false, true≢false}
 use mathlib.Core.List.{List, [], _∷_, List·Memᴰ as In, List·Memᴰ·head as here, List·Memᴰ·tail as next, List·Memᴰ·not-nil as not-nil, Memᴰ·cast}
 use borrow.Author.Tests.{eq-eqb}
 use lib.ListN.{length, set, length-set}
@@ -13,17 +13,13 @@ use lib.IntN.{ℤ, pos}
 use Rattle.links.specs.Head.{itemOf, head, Growing}
 use Rattle.links.specs.Column.{at, cutUp, cutDown, tieUp, tieDown, Tied}
 use Rattle.links.specs.Ground.{Ground, Tidy, Within, cutOne, taken, Holds}
-use Rattle.links.proofs.Stores.{same?, read-set}
+use Rattle.links.proofs.Stores.{same?, not-so, read-set}
 use Rattle.links.proofs.Plans.{entry-not-col}
 use Rattle.links.proofs.Rings.{without-off, above-in, below-in, down-stays, above-before, above-col}
 use Rattle.links.proofs.Grounds.{node-in, cut-up-off, cut-down-off, tidy-cut, taken-lengths}
 use Rattle.hiding.specs.Away.{Rising, Away}
 use Rattle.hiding.proofs.Spending.{more-asks, more-back}
 use Rattle.hiding.proofs.Rises.{rising-once, rising-next, rising-fresh}
-
-bool? : (b : Bool) → (b ≡ true) ⊎ (b ≡ false)
-bool? true = inl refl
-bool? false = inr refl
 
 -- none is away: the very lists
 pub all-back : (g : Ground) {heads : List ℤ} {up down : List ℕ} → Away g [] heads up down → Holds g heads up down
@@ -124,7 +120,7 @@ module _ (g : Ground) (t : Tidy g) (x : ℕ) (xs : List ℕ) (r : Rising g (x �
           either q (next m) = n m
 
           own : at (g .up) y ≡ x → at up y ≡ at (g .up) y
-          own q = ⊎-elim (λ o. absurd (d (sym (t .ring .tied y o .above-down) ∙ ap (at (g .down)) q))) (k .up-off y) (bool? (g .on y))
+          own q = k .up-off y (not-so (g .on y) (λ o. d (sym (t .ring .tied y o .above-down) ∙ ap (at (g .down)) q)))
 
       kept-down : (y : ℕ) → y ≢ at (g .up) x → (In (at (g .down) y) xs → ⊥) → at down y ≡ at (g .down) y
       kept-down y d n = ⊎-elim own (λ q. k .down-to y (either q)) (same? (at (g .down) y) x)
@@ -134,7 +130,7 @@ module _ (g : Ground) (t : Tidy g) (x : ℕ) (xs : List ℕ) (r : Rising g (x �
           either q (next m) = n m
 
           own : at (g .down) y ≡ x → at down y ≡ at (g .down) y
-          own q = ⊎-elim (λ o. absurd (d (sym (t .ring .tied y o .below-up) ∙ ap (at (g .up)) q))) (k .down-off y) (bool? (g .on y))
+          own q = k .down-off y (not-so (g .on y) (λ o. d (sym (t .ring .tied y o .below-up) ∙ ap (at (g .up)) q)))
 
       back-links : Away g xs (taken g xs .heads) (set up (at (g .down) x) x) (set down (at (g .up) x) x)
       back-links = record {

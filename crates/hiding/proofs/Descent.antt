@@ -12,21 +12,16 @@ use Rattle.links.specs.Ground.{Ground, Tidy, taken, Fresh, Holds}
 use Rattle.links.specs.Row.{others}
 use Rattle.links.specs.Taking.{gatherTo, hidden, hides, lastOut}
 use Rattle.links.proofs.Grounds.{taken-append, taken-plan, taken-tidy, taken-lengths, within-taken}
-use Rattle.links.proofs.Rows.{walked-taken}
+use Rattle.links.proofs.Rows.{others-taken}
 use Rattle.links.proofs.Gathering.{gather-one, gather-none}
+use Rattle.links.proofs.Descending.{reach, left, Stand, reach-past, reach-at, stand-next, step-less}
 use Rattle.hiding.specs.Hiding.{Around, Column, Taken}
 use Rattle.hiding.specs.Away.{Rising}
 use Rattle.hiding.proofs.Pushing.{lastOut-append}
 use Rattle.hiding.proofs.Rises.{rising-apart}
 use Rattle.hiding.proofs.Aways.{away-taken}
 use Rattle.hiding.proofs.Hides.{hidden-within, gathered-rising, gathered-fresh, gathered-off-column}
-use Rattle.hiding.proofs.Steps.{reach, left, Stand, reach-past, reach-at, step-stand, step-gathers, step-less, header-gathers}
-use Rattle.hiding.proofs.Columns.{head-stand, stand-inside, behind-headers, stand-entry, hidden-here, shown-here}
-
--- nodes taken out leave what a walk round an option meets
-pub others-taken : (g : Ground) → Tidy g → (xs : List ℕ) → Fresh g xs → (p : ℕ) → EntryOf (g .plan) p → others (taken g xs) p ≡ others g p
-unfolding others
-others-taken g t xs f p e = walked-taken g t xs f p e p (omega (arith, e .till))
+use Rattle.hiding.proofs.Columns.{head-stand, header-gathers, stand-inside, step-gathers, behind-headers, stand-entry, hidden-here, shown-here}
 
 -- The walk stands at rr: the lists are without the others of each hidden node that it passed.
 pub record Descent (g : Ground) (c np : ℕ) (heads : List ℤ) (up down : List ℕ) (rr stack : ℕ) : Type 0 where
@@ -52,7 +47,7 @@ module _ {g : Ground} {tints : List ℕ} {c from : ℕ} (w : Column g tints c fr
   column-down : (k : ℕ) {heads : List ℤ} {up down : List ℕ} → Holds (taken g (out k)) heads up down → {p : ℕ} → Stand g c p → at down p ≡ at (g .down) p
   column-down k h {p} s =
       ap (λ (l : List ℕ). at l p) (h .down-are)
-      ∙ away-taken g (out k) t (gathered-rising g (w .ready) c k) .down-to p (λ m. gathered-off-column g (w .ready) c k m (step-stand g t c (w .header) p s .col))
+      ∙ away-taken g (out k) t (gathered-rising g (w .ready) c k) .down-to p (λ m. gathered-off-column g (w .ready) c k m (stand-next g t c (w .header) p s .col))
 
   pub begin-in : {heads : List ℤ} {up down : List ℕ} → Holds g heads up down → c < length down
   begin-in k = rw (k .down-are) (omega (arith, stand-inside w (head-stand w), t .ring .downs))
@@ -61,13 +56,13 @@ module _ {g : Ground} {tints : List ℕ} {c from : ℕ} (w : Column g tints c fr
   begin k =
       rw (column-down 0 k (head-stand w))
       (record {
-        stand = step-stand g t c (w .header) c (head-stand w);
-        so-far = renamed (sym (step-gathers g t c (w .header) c (head-stand w) ∙ header-gathers g t c (w .header))) (record { holds = k; last = refl });
+        stand = stand-next g t c (w .header) c (head-stand w);
+        so-far = renamed (sym (step-gathers w (head-stand w) ∙ header-gathers w)) (record { holds = k; last = refl });
       })
 
   pub finish : {np : ℕ} {heads : List ℤ} {up down : List ℕ} {rr stack : ℕ} → Descent g c np heads up down rr stack → rr < from → Taken g (hides g c) np 0 heads up down stack
   unfolding hides
-  finish {rr = rr} m l = renamed (ap out (reach-past g t c (w .header) rr (omega (arith, w .begins)))) (m .so-far)
+  finish {rr = rr} m l = renamed (ap out (reach-past (g .plan) rr (omega (arith, w .begins)))) (m .so-far)
 
   module _ {rr : ℕ} (s : Stand g c rr) (l : from ≤ rr) {np : ℕ} {heads : List ℤ} {up down : List ℕ} {stack : ℕ} where
     -- On to the node below, when rr is dealt with.
@@ -79,14 +74,14 @@ module _ {g : Ground} {tints : List ℕ} {c from : ℕ} (w : Column g tints c fr
       next-in = rw (k .holds .down-are, taken-lengths g (out (rr + 1)) .2) (omega (arith, stand-inside w s, t .ring .downs))
 
       pub next : Descent g c np heads up down (at down rr) stack
-      next = rw same-down (record { stand = step-stand g t c (w .header) rr s; so-far = renamed (sym (step-gathers g t c (w .header) rr s)) k })
+      next = rw same-down (record { stand = stand-next g t c (w .header) rr s; so-far = renamed (sym (step-gathers w s)) k })
 
       pub next-less : (n : ℕ) → g .plan .N ≤ n → left n from (at down rr) < left n from rr
       next-less n h = rw (same-down, w .begins) (step-less g t c (w .header) rr s n h (behind-headers w s l))
 
     module _ (m : Descent g c np heads up down rr stack) where
       here : Taken g (out rr) np 0 heads up down stack
-      here = renamed (ap out (reach-at g t c (w .header) rr (behind-headers w s l))) (m .so-far)
+      here = renamed (ap out (reach-at (g .plan) rr (behind-headers w s l))) (m .so-far)
 
       -- coloured: nothing is hidden
       pub spare : at tints rr ≢ 0 → Taken g (out (rr + 1)) np 0 heads up down stack

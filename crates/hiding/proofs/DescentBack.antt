@@ -11,14 +11,14 @@ use Rattle.links.specs.Ground.{Ground, Tidy, taken, Holds}
 use Rattle.links.specs.Row.{others}
 use Rattle.links.specs.Taking.{gatherTo, hidden, hides}
 use Rattle.links.proofs.Gathering.{gather-none}
+use Rattle.links.proofs.Descending.{reach, left, Stand, reach-past, reach-at, stand-next, step-far, step-less}
 use Rattle.hiding.specs.Hiding.{Column}
 use Rattle.hiding.specs.Away.{Rising, Away, Behind}
 use Rattle.hiding.proofs.Rises.{rising-rest}
 use Rattle.hiding.proofs.Aways.{all-back, away-room, away-taken}
 use Rattle.hiding.proofs.Order.{gatherLater, gather-split, later-same, later-one, later-none}
 use Rattle.hiding.proofs.Hides.{gathered-rising, gathered-off-column}
-use Rattle.hiding.proofs.Steps.{reach, left, Stand, reach-past, reach-at, step-stand, step-far, step-gathers, step-less, header-gathers}
-use Rattle.hiding.proofs.Columns.{head-stand, stand-inside, further, behind-headers, stand-entry, hidden-here, shown-here}
+use Rattle.hiding.proofs.Columns.{head-stand, header-gathers, stand-inside, further, step-gathers, behind-headers, stand-entry, hidden-here, shown-here}
 
 -- The walk stands at rr: the others of each hidden node from there on are away.
 pub record DescentBack (g : Ground) (c : ℕ) (heads : List ℤ) (up down : List ℕ) (rr : ℕ) : Type 0 where
@@ -42,7 +42,7 @@ module _ {g : Ground} {tints : List ℕ} {c from : ℕ} (w : Column g tints c fr
   -- in column c the links are those of the whole ground
   column-down : (k : ℕ) → k ≤ g .plan .N → {heads : List ℤ} {up down : List ℕ} → Away g (out k) heads up down → {p : ℕ} → Stand g c p → at down p ≡ at (g .down) p
   column-down k l a {p} s =
-      a .down-to p (λ m. gathered-off-column g (w .ready) c (g .plan .N) (subst (λ (xs : List ℕ). In (at (g .down) p) xs) (sym (gather-split (hidden g c) g k l)) (In-append-r (gatherTo (hidden g c) g k) m)) (step-stand g t c (w .header) p s .col))
+      a .down-to p (λ m. gathered-off-column g (w .ready) c (g .plan .N) (subst (λ (xs : List ℕ). In (at (g .down) p) xs) (sym (gather-split (hidden g c) g k l)) (In-append-r (gatherTo (hidden g c) g k) m)) (stand-next g t c (w .header) p s .col))
 
   -- where the walk begins, all are away
   module _ {heads : List ℤ} {up down : List ℕ} (k : Holds (taken g (hides g c)) heads up down) where
@@ -62,14 +62,14 @@ module _ {g : Ground} {tints : List ℕ} {c from : ℕ} (w : Column g tints c fr
     begin =
         rw (column-down 0 (omega arith) all-away (head-stand w))
         (record {
-          stand = step-stand g t c (w .header) c (head-stand w);
+          stand = stand-next g t c (w .header) c (head-stand w);
           away = renamed
-              (later-same (hidden g c) g 0 (reach (g .plan) (at (g .down) c)) (omega arith) (step-far g t c (w .header) c (head-stand w) .1) (sym (step-gathers g t c (w .header) c (head-stand w) ∙ header-gathers g t c (w .header))))
+              (later-same (hidden g c) g 0 (reach (g .plan) (at (g .down) c)) (omega arith) (step-far g t c (w .header) c (head-stand w) .1) (sym (step-gathers w (head-stand w) ∙ header-gathers w)))
               all-away;
         })
 
   pub finish : {heads : List ℤ} {up down : List ℕ} {rr : ℕ} → DescentBack g c heads up down rr → rr < from → Holds g heads up down
-  finish {rr = rr} m l = all-back g (renamed (ap out (reach-past g t c (w .header) rr (omega (arith, w .begins))) ∙ later-none (hidden g c) g) (m .away))
+  finish {rr = rr} m l = all-back g (renamed (ap out (reach-past (g .plan) rr (omega (arith, w .begins))) ∙ later-none (hidden g c) g) (m .away))
 
   module _ {rr : ℕ} (s : Stand g c rr) (l : from ≤ rr) {heads : List ℤ} {up down : List ℕ} where
     -- On to the node below, when rr is dealt with.
@@ -84,8 +84,8 @@ module _ {g : Ground} {tints : List ℕ} {c from : ℕ} (w : Column g tints c fr
       next =
           rw same-down
           (record {
-            stand = step-stand g t c (w .header) rr s;
-            away = renamed (later-same (hidden g c) g (rr + 1) (reach (g .plan) (at (g .down) rr)) (further w s) (step-far g t c (w .header) rr s .1) (sym (step-gathers g t c (w .header) rr s))) k;
+            stand = stand-next g t c (w .header) rr s;
+            away = renamed (later-same (hidden g c) g (rr + 1) (reach (g .plan) (at (g .down) rr)) (further w s) (step-far g t c (w .header) rr s .1) (sym (step-gathers w s))) k;
           })
 
       pub next-less : (n : ℕ) → g .plan .N ≤ n → left n from (at down rr) < left n from rr
@@ -93,7 +93,7 @@ module _ {g : Ground} {tints : List ℕ} {c from : ℕ} (w : Column g tints c fr
 
     module _ (m : DescentBack g c heads up down rr) where
       here : Away g (out rr) heads up down
-      here = renamed (ap out (reach-at g t c (w .header) rr (behind-headers w s l))) (m .away)
+      here = renamed (ap out (reach-at (g .plan) rr (behind-headers w s l))) (m .away)
 
       -- coloured: nothing of its option is away
       pub spare : at tints rr ≢ 0 → Away g (out (rr + 1)) heads up down

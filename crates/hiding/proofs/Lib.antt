@@ -8,7 +8,6 @@ pub mod Ahead
 pub mod RoundBack
 pub mod Order
 pub mod Hides
-pub mod Steps
 pub mod Columns
 pub mod Descent
 pub mod DescentBack

@@ -4,7 +4,7 @@ use native.Mathlib.Omega.{arith}
 use mathlib.Core.Path.{_≡_, refl, _∙_, ap, sym, subst}
 use mathlib.Core.Logic.{⊎-elim, _≢_}
 use mathlib.Core.Bool.{Bool, true, false, cond}
-use mathlib.Core.List.{List, [], _∷_, _++_, append-assoc, append-nil, List·Memᴰ as In, List·Memᴰ·head as here, List·Memᴰ·tail as next, List·Memᴰ·not-nil as not-nil, Memᴰ·cast}
+use mathlib.Core.List.{List, [], _∷_, _++_, append-assoc, append-nil, append-cancel-left, List·Memᴰ as In, List·Memᴰ·head as here, List·Memᴰ·tail as next, List·Memᴰ·not-nil as not-nil, Memᴰ·cast}
 use lib.Dec.{T}
 use Rattle.rules.specs.Promises.{distinct}
 use Rattle.theorems.proofs.Words.Distinct.{distinct→}
@@ -18,7 +18,6 @@ use Rattle.links.proofs.Rows.{In-others}
 use Rattle.links.proofs.Gathering.{others-distinct, In-gather, gather-one}
 use Rattle.hiding.specs.Away.{Rising}
 use Rattle.hiding.proofs.Rises.{rising-append}
-use Rattle.hiding.proofs.Ahead.{append-cancel}
 
 -- Of two options, the nodes of one lie before those of the other.
 rows-ordered : (P : Plan) → Planned P → (j k x y : ℕ) → EntryOf P j → EntryOf P k → P .number j ≢ P .number k → j < k
@@ -88,11 +87,11 @@ module _ (chosen : ℕ → Bool) (g : Ground) where
 
   -- where nothing is gathered between, the same comes later
   pub later-same : (j k : ℕ) → j ≤ g .plan .N → k ≤ g .plan .N → gatherTo chosen g j ≡ gatherTo chosen g k → gatherLater chosen g j ≡ gatherLater chosen g k
-  later-same j k a b e = append-cancel (gatherTo chosen g j) (sym (gather-split j a) ∙ gather-split k b ∙ ap (λ (l : List ℕ). l ++ gatherLater chosen g k) (sym e))
+  later-same j k a b e = append-cancel-left (gatherTo chosen g j) _ _ (sym (gather-split j a) ∙ gather-split k b ∙ ap (λ (l : List ℕ). l ++ gatherLater chosen g k) (sym e))
 
   pub later-one : (k : ℕ) → k < g .plan .N → chosen k ≡ true → gatherLater chosen g k ≡ others g k ++ gatherLater chosen g (k + 1)
   later-one k h e =
-      append-cancel (gatherTo chosen g k)
+      append-cancel-left (gatherTo chosen g k) _ _
       (sym (gather-split k (omega arith))
       ∙ gather-split (k + 1) (omega arith)
       ∙ ap (λ (l : List ℕ). l ++ gatherLater chosen g (k + 1)) (gather-one chosen g k e)

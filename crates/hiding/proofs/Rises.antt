@@ -1,24 +1,16 @@
 -- Lists of nodes that rise in each column. Assumes nothing.
 use Prim.Native.Nat.{ℕ, _<_}
 use native.Mathlib.Omega.{arith}
-use mathlib.Core.Path.{_≡_, refl, ap, sym, subst}
+use mathlib.Core.Path.{_≡_, refl, ap, sym}
 use mathlib.Core.Logic.{⊎-elim}
-use mathlib.Core.List.{List, [], _∷_, _++_, List·Memᴰ as In, List·Memᴰ·head as here, List·Memᴰ·tail as next, List·Memᴰ·append-cases as In-append, Memᴰ·append-left as In-append-l, Memᴰ·append-right as In-append-r}
+use mathlib.Core.List.{List, [], _∷_, _++_, List·Memᴰ as In, List·Memᴰ·head as here, List·Memᴰ·tail as next, List·Memᴰ·append-cases as In-append, Memᴰ·append-right as In-append-r}
 use Rattle.links.specs.Ground.{Ground, Tidy, Within, cutOne, Fresh}
 use Rattle.links.proofs.Grounds.{tidy-cut, within-cut}
 use Rattle.hiding.specs.Away.{Rising}
 
-pub rising-within : (g : Ground) (xs : List ℕ) → Rising g xs → {y : ℕ} → In y xs → Within g y
-rising-within g (x ∷ xs) r (here e) = subst (λ (i : ℕ). Within g i) (sym e) (r .0)
-rising-within g (x ∷ xs) r (next m) = rising-within g xs (r .2) m
-
 -- a node stands in the list once
 pub rising-once : (g : Ground) (x : ℕ) (xs : List ℕ) → Rising g (x ∷ xs) → In x xs → ⊥
 rising-once g x xs r m = let l = r .1 x m refl in omega arith
-
-pub rising-front : (g : Ground) (xs ys : List ℕ) → Rising g (xs ++ ys) → Rising g xs
-rising-front g [] ys r = tt
-rising-front g (x ∷ xs) ys r = (r .0, (λ y m. r .1 y (In-append-l ys m)), rising-front g xs ys (r .2))
 
 pub rising-rest : (g : Ground) (xs ys : List ℕ) → Rising g (xs ++ ys) → Rising g ys
 rising-rest g [] ys r = r

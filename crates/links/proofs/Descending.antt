@@ -2,44 +2,46 @@
 -- Assumes nothing.
 use Prim.Native.Nat.{ℕ, _+_, _-_, _<_, _≤_}
 use native.Mathlib.Omega.{arith}
-use mathlib.Core.Path.{_≡_, refl, _∙_, ap, sym, subst}
+use mathlib.Core.Path.{_≡_, _∙_, sym}
 use mathlib.Core.Logic.{_⊎_, inl, inr, ⊎-elim}
-use mathlib.Core.Bool.{Bool, true, false, _&&_, cond}
-use borrow.Author.Tests.{lt-ltb, le-ltb}
-use lib.Dec.{T, leb, ltb, eqb, leb→le, le→leb, eqb→eq}
-use Rattle.theorems.proofs.Words.Tests.{T-true, T-and, and-T, eq→eqb}
+use mathlib.Core.Bool.{true, false, _&&_, cond, and-eq-true-iff}
+use borrow.Author.Tests.{lt-ltb, le-ltb, le-leb, eq-eqb, leb-true, eqb-true}
+use lib.Dec.{leb, ltb, eqb}
 use Rattle.links.specs.Column.{at, Tied}
 use Rattle.links.specs.Plan.{Plan, start, EntryOf, Header}
 use Rattle.links.specs.Ground.{Ground, Tidy}
 use Rattle.links.specs.Taking.{inColumn}
+use Rattle.links.proofs.Stores.{not-so}
 use Rattle.links.proofs.Rings.{next-is}
 use Rattle.links.proofs.Plans.{entry-from, header-before}
+-- how far a walk has come, passed on
+pub use Rattle.links.specs.Way.{reach}
 
 -- An entry of column c.
 pub column→ : (g : Ground) (c k : ℕ) → inColumn g c k ≡ true → (g .on k ≡ true) × (g .plan .col k ≡ c) × (start (g .plan) ≤ k)
 column→ g c k e =
-    let a = T-and (g .on k && eqb (g .plan .col k) c) (leb (start (g .plan)) k) (subst T (sym e) tt) in
-    let b = T-and (g .on k) (eqb (g .plan .col k) c) (a .0) in
-    (T-true (g .on k) (b .0), eqb→eq (g .plan .col k) c (b .1), leb→le (start (g .plan)) k (a .1))
+    let a = and-eq-true-iff (g .on k && eqb (g .plan .col k) c) (leb (start (g .plan)) k) .0 e in
+    let b = and-eq-true-iff (g .on k) (eqb (g .plan .col k) c) .0 (a .0) in
+    (b .0, eqb-true (g .plan .col k) c (b .1), leb-true (start (g .plan)) k (a .1))
 
 pub column← : (g : Ground) (c k : ℕ) → g .on k ≡ true → g .plan .col k ≡ c → start (g .plan) ≤ k → inColumn g c k ≡ true
-column← g c k o e h =
-    T-true (inColumn g c k) (and-T (g .on k && eqb (g .plan .col k) c) (leb (start (g .plan)) k) (and-T (g .on k) (eqb (g .plan .col k) c) (subst T (sym o) tt) (eq→eqb (g .plan .col k) c e)) (le→leb (start (g .plan)) k h))
+column← g c k o e h = rw (o, eq-eqb (g .plan .col k) c e, le-leb (start (g .plan)) k h)
+
+-- none lies before the entries
+pub before-gap : (g : Ground) (c k : ℕ) → k < start (g .plan) → inColumn g c k ≡ false
+before-gap g c k h = not-so (inColumn g c k) (λ e. omega (arith, column→ g c k e .2, h))
 
 pub on-entry : (g : Ground) → Tidy g → (k : ℕ) → g .on k ≡ true → start (g .plan) ≤ k → EntryOf (g .plan) k
 on-entry g t k o h = ⊎-elim (λ i. absurd (omega (arith, header-before (g .plan) (t .planned) k i, h))) (λ m. m) (t .masked k o)
 
--- How far a walk down a column has come at p: when it is at the header again, over all nodes.
-abbrev pub reach : Plan → ℕ → ℕ
-reach P p = cond (ltb p (start P)) (P .N) p
-
+-- How far the walk has come when it is at the header again, and at an entry.
 pub reach-past : (P : Plan) (p : ℕ) → p < start P → reach P p ≡ P .N
 reach-past P p l = rw (lt-ltb p (start P) l)
 
 pub reach-at : (P : Plan) (p : ℕ) → start P ≤ p → reach P p ≡ p
 reach-at P p l = rw (le-ltb p (start P) l)
 
--- And how far it has still to go, by numbers that the code has at hand.
+-- And how far it has still to go from p, by numbers that the code has at hand.
 abbrev pub left : ℕ → ℕ → ℕ → ℕ
 left n first p = cond (ltb p first) 0 (n - p)
 
@@ -80,14 +82,11 @@ module _ (g : Ground) (t : Tidy g) (c : ℕ) (hd : Header (g .plan) c) where
 
     -- no entry of the column lies between
     pub step-gap : (k : ℕ) → p + 1 ≤ k → k < reach (g .plan) (at (g .down) p) → inColumn g c k ≡ false
-    step-gap k a b = go (inColumn g c k) refl
-      where
-        go : (x : Bool) → inColumn g c k ≡ x → x ≡ false
-        go true e =
-            let h = column→ g c k e in
-            let i = next-is (g .plan .N) (g .plan .col) (g .on) (g .up) (g .down) (t .ring) (t .planned .low) p k (s .on) (h .0) (h .1 ∙ sym (s .col)) (omega arith) in
-            ⊎-elim (λ w. absurd (omega (arith, i .1, b, reach-at (g .plan) (at (g .down) p) (w .1)))) (λ q. absurd (omega (arith, i .0, q, t .planned .low p, s .col))) step-down
-        go false e = refl
+    step-gap k a b =
+        not-so (inColumn g c k) (λ e.
+        let h = column→ g c k e in
+        let i = next-is (g .plan .N) (g .plan .col) (g .on) (g .up) (g .down) (t .ring) (t .planned .low) p k (s .on) (h .0) (h .1 ∙ sym (s .col)) (omega arith) in
+        ⊎-elim (λ w. omega (arith, i .1, b, reach-at (g .plan) (at (g .down) p) (w .1))) (λ q. omega (arith, i .0, q, t .planned .low p, s .col)) step-down)
 
     pub step-far : (p + 1 ≤ reach (g .plan) (at (g .down) p)) × (reach (g .plan) (at (g .down) p) ≤ g .plan .N)
     step-far =
@@ -101,8 +100,4 @@ module _ (g : Ground) (t : Tidy g) (c : ℕ) (hd : Header (g .plan) c) where
 
   -- no entry of the column lies at or above its header
   pub header-gap : (k : ℕ) → k < c + 1 → inColumn g c k ≡ false
-  header-gap k b = go (inColumn g c k) refl
-    where
-      go : (x : Bool) → inColumn g c k ≡ x → x ≡ false
-      go true e = absurd (omega (arith, column→ g c k e .2, b, header-before (g .plan) (t .planned) c hd))
-      go false e = refl
+  header-gap k b = before-gap g c k (omega (arith, b, header-before (g .plan) (t .planned) c hd))

@@ -17,18 +17,14 @@ use Rattle.links.specs.Head.{itemOf, belowZero, head, Growing}
 use Rattle.links.specs.Column.{at, cutUp, cutDown, tieUp, tieDown, without, Ring}
 use Rattle.links.specs.Plan.{Plan, start, lo, hi, EntryOf, Header, Planned}
 use Rattle.links.specs.Ground.{Ground, tally, Short, Edge, Tidy, Within, cutHeads, cutOne, taken, Fresh, Holds}
-use Rattle.links.proofs.Stores.{same?, read-set}
+use Rattle.links.proofs.Stores.{same?, not-so, read-set}
 use Rattle.links.proofs.Rings.{without→, without←, without-other, without-off, above-in, below-in, tie-down, tie-up, ring-cut}
 use Rattle.links.proofs.Plans.{entry-from, entry-till, entry-not-col, entry-no-header, header-before, past-no-entry, past-no-header, before-no-entry, before-no-header}
 use Rattle.links.proofs.Tallies.{tally-cut, tally-keep, tally-some, tally-small}
 
 -- A node that is neither a header nor an entry is in no column.
 pub off-column : (g : Ground) → Tidy g → (y : ℕ) → (Header (g .plan) y → ⊥) → (EntryOf (g .plan) y → ⊥) → g .on y ≡ false
-off-column g t y nh ne = go (g .on y) refl
-  where
-    go : (b : Bool) → g .on y ≡ b → b ≡ false
-    go true e = absurd (⊎-elim nh ne (t .masked y e))
-    go false e = refl
+off-column g t y nh ne = not-so (g .on y) (λ e. ⊎-elim nh ne (t .masked y e))
 
 module _ (g : Ground) (t : Tidy g) where
   W : Planned (g .plan)
@@ -174,6 +170,14 @@ taken-tidy g (x ∷ xs) t f = taken-tidy (cutOne g x) xs (tidy-cut g t x (f .0))
 pub fresh-append : (g : Ground) (xs ys : List ℕ) → Fresh g xs → Fresh (taken g xs) ys → Fresh g (xs ++ ys)
 fresh-append g [] ys f h = h
 fresh-append g (x ∷ xs) ys f h = (f .0, fresh-append (cutOne g x) xs ys (f .1) h)
+
+-- nodes that were in their columns one after another were there at first
+pub fresh-within : (g : Ground) (xs : List ℕ) → Fresh g xs → {y : ℕ} → In y xs → Within g y
+unfolding cutOne
+fresh-within g (x ∷ xs) f {y} (here e) = subst (λ (z : ℕ). Within g z) (sym e) (f .0)
+fresh-within g (x ∷ xs) f {y} (next m) =
+    let w = fresh-within (cutOne g x) xs (f .1) m in
+    record { entry = w .entry; on = without→ (g .on) x y (w .on) .1; header = without→ (g .on) x (g .plan .col y) (w .header) .1 }
 
 pub fresh-front : (g : Ground) (xs ys : List ℕ) → Fresh g (xs ++ ys) → Fresh g xs
 fresh-front g [] ys f = tt

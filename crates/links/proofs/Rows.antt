@@ -202,3 +202,7 @@ walked-taken g t xs f p e nn k =
 
     joined : {a a′ b b′ c c′ : List ℕ} → a ≡ a′ → b ≡ b′ → c ≡ c′ → cond (ltb p nn) a (b ++ c) ≡ cond (ltb p nn) a′ (b′ ++ c′)
     joined x y z = rw (x, y, z)
+
+pub others-taken : (g : Ground) → Tidy g → (xs : List ℕ) → Fresh g xs → (p : ℕ) → EntryOf (g .plan) p → others (taken g xs) p ≡ others g p
+unfolding others
+others-taken g t xs f p e = walked-taken g t xs f p e p (omega (arith, e .till))

@@ -9,20 +9,27 @@ use borrow.Author.Tests.{lt-ltb, le-ltb, ltb-true, ltb-false}
 use lib.Dec.{T, ltb}
 use lib.IntN.{ℤ}
 use Rattle.rules.specs.Lists.{keep, from}
-use Rattle.theorems.proofs.Words.Lists.{keep→, keep←, In-from, from-In}
+use Rattle.theorems.proofs.Words.Lists.{keep→, keep←, keep-append, In-from, from-In, from-split}
 use Rattle.links.specs.Row.{span, full, passed}
 use Rattle.links.specs.Way.{way, wayBack}
 use Rattle.links.proofs.Stores.{less?}
 
+-- a row in two parts, and those of it that pass
+pub span-join : (a b c : ℕ) → a ≤ b → b ≤ c → span a c ≡ span a b ++ span b c
+span-join a b c h k =
+    let e : c - a ≡ (b - a) + (c - b) = omega arith in
+    let f : a + (b - a) ≡ b = omega arith in
+    ap (from a) e ∙ from-split (b - a) a (c - b) ∙ ap (λ (i : ℕ). span a b ++ from i (c - b)) f
+
+pub keep-join : (f : ℕ → Bool) (a b c : ℕ) → a ≤ b → b ≤ c → keep f (span a c) ≡ keep f (span a b) ++ keep f (span b c)
+keep-join f a b c h k = ap (keep f) (span-join a b c h k) ∙ keep-append f (span a b) (span b c)
+
+-- one number more
 pub from-end : (i k : ℕ) → from i (suc k) ≡ from i k ++ ((i + k) ∷ [])
-from-end i zero = let e : i ≡ i + 0 = omega arith in ap (λ (z : ℕ). z ∷ []) e
-from-end i (suc k) = let e : suc i + k ≡ i + suc k = omega arith in ap (λ (l : List ℕ). i ∷ l) (from-end (suc i) k ∙ ap (λ (z : ℕ). from (suc i) k ++ (z ∷ [])) e)
+from-end i k = let e : suc k ≡ k + 1 = omega arith in ap (from i) e ∙ from-split k i 1
 
 pub span-end : (a b : ℕ) → a ≤ b → span a (b + 1) ≡ span a b ++ (b ∷ [])
-span-end a b h =
-    let e : b + 1 - a ≡ suc (b - a) = omega arith in
-    let f : a + (b - a) ≡ b = omega arith in
-    ap (from a) e ∙ from-end a (b - a) ∙ ap (λ (z : ℕ). from a (b - a) ++ (z ∷ [])) f
+span-end a b h = let e : b + 1 - b ≡ 1 = omega arith in span-join a b (b + 1) h (omega arith) ∙ ap (λ (n : ℕ). span a b ++ from b n) e
 
 pub span-none : (a b : ℕ) → b ≤ a → span a b ≡ []
 span-none a b h = let e : b - a ≡ 0 = omega arith in ap (from a) e
@@ -32,14 +39,6 @@ In-span a b m = let r = In-from a (b - a) m in (r .0, omega arith)
 
 pub span-In : (a b : ℕ) {y : ℕ} → a ≤ y → y < b → In y (span a b)
 span-In a b h k = from-In a (b - a) h (omega arith)
-
-pub keep-append : {A : Type 0} (f : A → Bool) (l m : List A) → keep f (l ++ m) ≡ keep f l ++ keep f m
-keep-append f [] m = refl
-keep-append f (x ∷ l) m = go (f x) (keep-append f l m)
-  where
-    go : (b : Bool) → keep f (l ++ m) ≡ keep f l ++ keep f m → cond b (x ∷ keep f (l ++ m)) (keep f (l ++ m)) ≡ cond b (x ∷ keep f l) (keep f l) ++ keep f m
-    go true e = ap (λ (z : List _). x ∷ z) e
-    go false e = e
 
 -- one node more, full or not
 keep-end : (heads : List ℤ) (a b : ℕ) → a ≤ b → full heads b ≡ true → keep (full heads) (span a (b + 1)) ≡ keep (full heads) (span a b) ++ (b ∷ [])

@@ -9,17 +9,12 @@ use borrow.Author.Tests.{eq-eqb, ne-eqb, eqb-true}
 use lib.Dec.{T, eqb}
 use Rattle.rules.specs.Lists.{count, from}
 use Rattle.theorems.proofs.Words.Tests.{T-dec, T-true, T-false, T-and}
-use Rattle.theorems.proofs.Words.Counts.{count-pos, count-length}
+use Rattle.theorems.proofs.Words.Counts.{count-cong, count-length}
 use Rattle.theorems.proofs.Words.Lists.{In-from, from-In, length-from}
 use Rattle.links.specs.Column.{without}
 use Rattle.links.specs.Plan.{Plan, start}
 use Rattle.links.specs.Ground.{tally}
 use Rattle.links.proofs.Stores.{same?}
-
--- a test that changes at none of the elements counts the same
-count-same : {A : Type 0} (f g : A → Bool) (l : List A) → ((x : A) → In x l → f x ≡ g x) → count f l ≡ count g l
-count-same f g [] h = refl
-count-same f g (x ∷ l) h = rw (h x (here refl), count-same f g l (λ y m. h y (next m)))
 
 -- where something is counted, something passes
 count-some : {A : Type 0} (f : A → Bool) (l : List A) → 0 < count f l → (x : A) × In x l × T (f x)
@@ -37,7 +32,7 @@ count-one f g x i (suc k) a b fx gx h = ⊎-elim at-once (λ n. later n (g i) re
   where
     at-once : i ≡ x → count f (i ∷ from (suc i) k) ≡ suc (count g (i ∷ from (suc i) k))
     at-once e =
-        let same = count-same f g (from (suc i) k) (λ y m. let w = In-from (suc i) k m in h y (λ q. omega (arith, w .0, q, e))) in
+        let same = count-cong f g (from (suc i) k) (λ y m. let w = In-from (suc i) k m in h y (λ q. omega (arith, w .0, q, e))) in
         rw (ap f e ∙ fx, ap g e ∙ gx) (ap suc same)
 
     later : i ≢ x → (b : Bool) → g i ≡ b → count f (from (suc i) k) ≡ suc (count g (from (suc i) k)) → count f (i ∷ from (suc i) k) ≡ suc (count g (i ∷ from (suc i) k))
@@ -55,7 +50,7 @@ module _ (P : Plan) (on : ℕ → Bool) where
   -- of any other column
   pub tally-keep : (x i : ℕ) → P .col x ≢ i → tally P (without on x) i ≡ tally P on i
   unfolding tally
-  tally-keep x i n = count-same (λ y. without on x y && eqb (P .col y) i) (λ y. on y && eqb (P .col y) i) (from (start P) (P .N - start P)) (λ y m. ⊎-elim (λ e. here-none y e) (λ d. rw (ne-eqb y x d)) (same? y x))
+  tally-keep x i n = count-cong (λ y. without on x y && eqb (P .col y) i) (λ y. on y && eqb (P .col y) i) (from (start P) (P .N - start P)) (λ y m. ⊎-elim (λ e. here-none y e) (λ d. rw (ne-eqb y x d)) (same? y x))
     where
       here-none : (y : ℕ) → y ≡ x → (without on x y && eqb (P .col y) i) ≡ (on y && eqb (P .col y) i)
       here-none y e = go (on y) (rw (e, ne-eqb (P .col x) i n))

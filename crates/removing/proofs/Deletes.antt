@@ -69,9 +69,6 @@ module _ (g : Ground) (r : ℕ) (heads₀ : List ℤ) (up₀ down₀ : List ℕ)
     }
 
     module _ (heads : List ℤ) (up down : List ℕ) (q : ℕ) (m : Midway g r np heads up down q) where
-      ws : List ℕ
-      ws = walked g r q
-
       fresh : Fresh g (walked g r q)
       fresh = walked-fresh q (m .place)
 

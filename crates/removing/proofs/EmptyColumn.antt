@@ -1,20 +1,21 @@
 -- A column of which no entry is left comes back into sight, with its header alone: the lists are tidy. Assumes nothing.
-use Prim.Native.Nat.{ℕ, _-_, _<_, _≤_}
+use Prim.Native.Nat.{ℕ, _<_, _≤_}
 use native.Mathlib.Omega.{arith}
 use mathlib.Core.Path.{_≡_, _∙_, ap, sym, subst}
 use mathlib.Core.Logic.{_⊎_, inl, inr, ⊎-elim, _≢_}
 use mathlib.Core.Bool.{Bool, true}
 use lib.ListN.{set, length-set}
-use lib.Seq.{getD-set-same, getD-set-other}
+use lib.Seq.{getD-set-same}
 use lib.IntN.{pos}
-use Rattle.links.specs.Head.{itemOf, head}
+use Rattle.links.specs.Head.{head}
 use Rattle.links.specs.Column.{at, Tied}
 use Rattle.links.specs.Plan.{EntryOf, Header, Planned}
 use Rattle.links.specs.Ground.{Ground, tally, Tidy}
 use Rattle.links.proofs.Plans.{entry-no-header, header-before, past-no-header, before-no-header}
 use Rattle.links.proofs.Tallies.{tally-has}
-use Rattle.removing.proofs.OffColumn.{tally-alike}
 use Rattle.links.proofs.Stores.{same?, less?}
+use Rattle.removing.proofs.OffColumn.{tally-alike}
+use Rattle.removing.proofs.Shortening.{head-other, tied-other, row-other, edge-other}
 
 module _ (g : Ground) (t : Tidy g) (c : ℕ) (h : Header (g .plan) c) (none : (y : ℕ) → g .on y ≡ true → g .plan .col y ≢ c)
     (on : ℕ → Bool) (own-on : on c ≡ true) (others-on : (y : ℕ) → y ≢ c → on y ≡ g .on y) where
@@ -39,15 +40,6 @@ module _ (g : Ground) (t : Tidy g) (c : ℕ) (h : Header (g .plan) c) (none : (y
 
   entry-other : (y : ℕ) → EntryOf (g .plan) y → y ≢ c
   entry-other y e q = entry-no-header (g .plan) W y e (subst (Header (g .plan)) (sym q) h)
-
-  head-other : (y : ℕ) → y ≢ c → head (set (g .heads) c (pos 0)) y ≡ head (g .heads) y
-  head-other y n = getD-set-other (g .heads) c y (pos 0) (pos 0) n
-
-  up-other : (y : ℕ) → y ≢ c → at (set (g .up) c c) y ≡ at (g .up) y
-  up-other y n = getD-set-other (g .up) c y c 0 n
-
-  down-other : (y : ℕ) → y ≢ c → at (set (g .down) c c) y ≡ at (g .down) y
-  down-other y n = getD-set-other (g .down) c y c 0 n
 
   up-own : at (set (g .up) c c) c ≡ c
   up-own = getD-set-same (g .up) c c 0 (omega (arith, before, t .ring .ups))
@@ -74,19 +66,7 @@ module _ (g : Ground) (t : Tidy g) (c : ℕ) (h : Header (g .plan) c) (none : (y
       other : x ≢ c → Tied (g .plan .N) (g .plan .col) on (set (g .up) c c) (set (g .down) c c) x
       other n =
           let i = t .ring .tied x (was x n o) in
-          let u = up-other x n in
-          let d = down-other x n in
-          let u′ = up-other (at (g .down) x) (was-other (at (g .down) x) (i .below-on)) in
-          let d′ = down-other (at (g .up) x) (was-other (at (g .up) x) (i .above-on)) in
-          record {
-            inside = i .inside;
-            below-on = rw d (is (at (g .down) x) (i .below-on));
-            above-on = rw u (is (at (g .up) x) (i .above-on));
-            below-col = rw d (i .below-col);
-            below-up = rw d (u′ ∙ i .below-up);
-            above-down = rw u (d′ ∙ i .above-down);
-            rises = rw d (i .rises);
-          }
+          tied-other g c c c on x i n (was-other (at (g .down) x) (i .below-on)) (was-other (at (g .up) x) (i .above-on)) (is (at (g .down) x) (i .below-on)) (is (at (g .up) x) (i .above-on))
 
   none-left : tally (g .plan) on c ≡ 0
   none-left = go (less? 0 (tally (g .plan) on c))
@@ -105,7 +85,7 @@ module _ (g : Ground) (t : Tidy g) (c : ℕ) (h : Header (g .plan) c) (none : (y
 
       other : i ≢ c → head (set (g .heads) c (pos 0)) i ≡ pos (tally (g .plan) on i)
       other n =
-          head-other i n ∙ t .counts i k (was i n o)
+          head-other g c c c i n ∙ t .counts i k (was i n o)
           ∙ ap pos (tally-alike (g .plan) (g .on) on i (λ y e. sym (others-on y (λ q. n (sym e ∙ ap (g .plan .col) q ∙ own-col)))))
 
   pub tidy-empty : Tidy (record { plan = g .plan; on = on; heads = set (g .heads) c (pos 0); up = set (g .up) c c; down = set (g .down) c c })
@@ -115,19 +95,9 @@ module _ (g : Ground) (t : Tidy g) (c : ℕ) (h : Header (g .plan) c) (none : (y
     ring = record { ups = rw length-set (t .ring .ups); downs = rw length-set (t .ring .downs); tied = tied };
     heads-in = rw length-set (t .heads-in);
     counts = counts;
-    full = λ y e o. head-other y (entry-other y e) ∙ t .full y e (was y (entry-other y e) o);
-    rows = λ y e.
-        let n = entry-other y e in
-        ⊎-elim (λ f. inl (head-other y n ∙ f))
-        (λ s. inr (record { none = head-other y n ∙ s .none; ahead = up-other y n ∙ s .ahead; back = down-other y n ∙ s .back; off = others-on y n ∙ s .off })) (t .rows y e);
+    full = λ y e o. head-other g c c c y (entry-other y e) ∙ t .full y e (was y (entry-other y e) o);
+    rows = λ y e. let n = entry-other y e in row-other g c c c on y n (others-on y n) (t .rows y e);
     edge = λ k l row.
-        let e = t .edge k l row in
-        let n : g .plan .past k ≢ c = λ q. past-no-header (g .plan) W k l row (subst (Header (g .plan)) (sym q) h) in
-        let m : g .plan .first k - 1 ≢ c = λ q. before-no-header (g .plan) W k l row (subst (Header (g .plan)) (sym q) h) in
-        record {
-          number = head-other (g .plan .past k) n ∙ e .number;
-          to-first = up-other (g .plan .past k) n ∙ e .to-first;
-          none = ap itemOf (head-other (g .plan .first k - 1) m) ∙ e .none;
-          to-last = down-other (g .plan .first k - 1) m ∙ e .to-last;
-        };
+        edge-other g c c c on k (λ q. past-no-header (g .plan) W k l row (subst (Header (g .plan)) (sym q) h))
+        (λ q. before-no-header (g .plan) W k l row (subst (Header (g .plan)) (sym q) h)) (t .edge k l row);
   }

@@ -1,40 +1,22 @@
 -- What a walk round an option has passed is the front of all that it will pass, and what that is depends on the heads only. Assumes nothing.
-use Prim.Native.Nat.{ℕ, zero, suc, _+_, _-_, _<_, _≤_}
+use Prim.Native.Nat.{ℕ, _+_, _<_, _≤_}
 use native.Mathlib.Omega.{arith}
 use mathlib.Core.Path.{_≡_, _∙_, ap, sym}
 use mathlib.Core.Logic.{⊎-elim, _≢_}
-use mathlib.Core.Bool.{Bool, true, false, cond}
-use mathlib.Core.List.{List, _∷_, _++_, append-assoc}
+use mathlib.Core.Bool.{cond}
+use mathlib.Core.List.{List, _++_, append-assoc}
 use borrow.Author.Tests.{lt-ltb, le-ltb}
 use lib.Dec.{ltb}
 use lib.IntN.{ℤ}
-use Rattle.rules.specs.Lists.{keep, from}
+use Rattle.rules.specs.Lists.{keep}
 use Rattle.theorems.proofs.Words.Lists.{keep-cong}
 use Rattle.links.specs.Head.{itemOf, head}
 use Rattle.links.specs.Plan.{Plan, lo, hi, EntryOf}
 use Rattle.links.specs.Ground.{Ground}
 use Rattle.links.specs.Row.{span, full, passed, walked, others}
 use Rattle.links.proofs.Stores.{less?}
-use Rattle.links.proofs.Spans.{In-span}
+use Rattle.links.proofs.Spans.{In-span, keep-join}
 use Rattle.links.proofs.Rows.{At}
-
-keep-from : (f : ℕ → Bool) (i k l : ℕ) → keep f (from i (k + l)) ≡ keep f (from i k) ++ keep f (from (i + k) l)
-keep-from f i zero l = let a : 0 + l ≡ l = omega arith in let b : i + 0 ≡ i = omega arith in rw (a, b)
-keep-from f i (suc k) l =
-    let a : suc k + l ≡ suc (k + l) = omega arith in
-    let b : i + suc k ≡ suc i + k = omega arith in
-    rw (a, b) (go (f i) (keep-from f (suc i) k l))
-  where
-    go : (t : Bool) → keep f (from (suc i) (k + l)) ≡ keep f (from (suc i) k) ++ keep f (from (suc i + k) l)
-        → cond t (i ∷ keep f (from (suc i) (k + l))) (keep f (from (suc i) (k + l))) ≡ cond t (i ∷ keep f (from (suc i) k)) (keep f (from (suc i) k)) ++ keep f (from (suc i + k) l)
-    go true e = ap (λ (z : List ℕ). i ∷ z) e
-    go false e = e
-
-keep-span : (f : ℕ → Bool) (a m b : ℕ) → a ≤ m → m ≤ b → keep f (span a b) ≡ keep f (span a m) ++ keep f (span m b)
-keep-span f a m b h k =
-    let e : b - a ≡ m - a + (b - m) = omega arith in
-    let d : a + (m - a) ≡ m = omega arith in
-    ap (λ (n : ℕ). keep f (from a n)) e ∙ keep-from f a (m - a) (b - m) ∙ ap (λ (n : ℕ). keep f (span a m) ++ keep f (from n (b - m))) d
 
 pub passed-front : (heads : List ℤ) (a b p nn : ℕ) → a ≤ p → p < b → a ≤ nn → nn ≤ b → (rest : List ℕ) × (passed heads a b p p ≡ passed heads a b p nn ++ rest)
 passed-front heads a b p nn h k i j = ⊎-elim ahead behind (less? p nn)
@@ -43,7 +25,7 @@ passed-front heads a b p nn h k i j = ⊎-elim ahead behind (less? p nn)
     ahead l = (
       keep (full heads) (span nn b) ++ keep (full heads) (span a p),
       rw (le-ltb p p (omega arith), lt-ltb p nn l)
-          (ap (λ (z : List ℕ). z ++ keep (full heads) (span a p)) (keep-span (full heads) (p + 1) nn b (omega arith) j)
+          (ap (λ (z : List ℕ). z ++ keep (full heads) (span a p)) (keep-join (full heads) (p + 1) nn b (omega arith) j)
           ∙ append-assoc (keep (full heads) (span (p + 1) nn)) (keep (full heads) (span nn b)) (keep (full heads) (span a p))),
     )
 
@@ -51,7 +33,7 @@ passed-front heads a b p nn h k i j = ⊎-elim ahead behind (less? p nn)
     behind l = (
       keep (full heads) (span nn p),
       rw (le-ltb p p (omega arith), le-ltb p nn l)
-          (ap (λ (z : List ℕ). keep (full heads) (span (p + 1) b) ++ z) (keep-span (full heads) a nn p i l)
+          (ap (λ (z : List ℕ). keep (full heads) (span (p + 1) b) ++ z) (keep-join (full heads) a nn p i l)
           ∙ sym (append-assoc (keep (full heads) (span (p + 1) b)) (keep (full heads) (span a nn)) (keep (full heads) (span nn p)))),
     )
 

@@ -4,7 +4,7 @@ use Prim.Native.Nat.{ℕ, _+_, _-_, _<_, _≤_}
 use native.Mathlib.Omega.{arith}
 use mathlib.Core.Path.{_≡_, refl, _∙_, ap, sym, subst}
 use mathlib.Core.Logic.{⊎-elim, _≢_}
-use mathlib.Core.Bool.{Bool, true, false, not, cond, false≢true}
+use mathlib.Core.Bool.{Bool, true, false, not, cond, false≢true, true≢false}
 use mathlib.Core.List.{List, [], _++_, List·Memᴰ as In}
 use lib.Dec.{eqb}
 use lib.Seq.{getD-set-same, getD-set-other}
@@ -16,12 +16,13 @@ use Rattle.links.specs.Plan.{Plan, EntryOf}
 use Rattle.links.specs.Ground.{Ground, Tidy, Within, taken, Fresh, Holds}
 use Rattle.links.specs.Row.{others}
 use Rattle.links.specs.Shown.{Ready}
-use Rattle.links.specs.Taking.{firstOut, gatherTo, holdsColumn, leaving, offColumn}
+use Rattle.links.specs.Taking.{firstOut, gatherTo, inColumn, holdsColumn, leaving, offColumn}
 use Rattle.links.proofs.Stores.{same?, less?}
-use Rattle.links.proofs.Plans.{entry-till, entry-no-header, row-mate}
+use Rattle.links.proofs.Plans.{entry-from, entry-till, entry-no-header, row-mate}
 use Rattle.links.proofs.Grounds.{taken-append, taken-plan, taken-tidy, taken-on, taken-head, taken-down-off, off-taken, fresh-of, fresh-rest}
 use Rattle.links.proofs.Rows.{In-others}
 use Rattle.links.proofs.Gathering.{others-distinct, gather-same, gather-one, gather-none}
+use Rattle.links.proofs.Descending.{column←}
 use Rattle.removing.specs.Deleting.{Deleting}
 use Rattle.removing.specs.Removing.{holdsOther, shortened, Dropped}
 use Rattle.removing.proofs.Emptying.{first-none, firstBy, first-by}
@@ -30,7 +31,7 @@ use Rattle.removing.proofs.Fronts.{others-alike}
 use Rattle.removing.proofs.Holding.{other-holds}
 use Rattle.removing.proofs.OffColumn.{off-own, tidy-off}
 use Rattle.removing.proofs.Shortening.{tidy-shorten}
-use Rattle.removing.proofs.Leaving.{leaving-is, leaving-not, goes, in-sight, leaves-fresh}
+use Rattle.removing.proofs.Leaving.{leaving-is, goes, in-sight, leaves-fresh}
 
 -- the nodes that go of the options with an entry of column c below k; and the ground that the lists hold then, with column c out of sight
 abbrev pub going : Ground → ℕ → ℕ → ℕ → List ℕ
@@ -58,18 +59,17 @@ module _ (g : Ground) (R : Ready g) (c p np : ℕ) where
 
   module _ (heads : List ℤ) (up down : List ℕ) where
     -- past nodes that are no entries of the column
-    pub going-past : (k m : ℕ) → Going g c p np heads up down k → k ≤ m → ((j : ℕ) → k ≤ j → j < m → EntryOf (g .plan) j → g .on j ≡ true → g .plan .col j ≢ c)
-        → Going g c p np heads up down m
+    pub going-past : (k m : ℕ) → Going g c p np heads up down k → k ≤ m → ((j : ℕ) → k ≤ j → j < m → inColumn g c j ≡ false) → Going g c p np heads up down m
     going-past k m G l free = record {
       tidy = subst (λ (xs : List ℕ). Tidy (record { plan = g .plan; on = taken (offColumn g c) xs .on; heads = heads; up = up; down = down })) (sym same-list) (G .tidy);
       same = G .same;
-      short = λ y e o q b s. ⊎-elim (λ a. G .short y e o q a s) (λ a. absurd (free y a b e o q)) (less? y k);
+      short = λ y e o q b s. ⊎-elim (λ a. G .short y e o q a s) (λ a. absurd (true≢false (sym (column← g c y o q (entry-from (g .plan) (t .planned) y e)) ∙ free y a b))) (less? y k);
       ahead = λ y o q b. G .ahead y o q (omega arith);
       none = ap (firstOut (offColumn g c) np) same-list ∙ G .none;
     }
       where
         same-list : going g c p m ≡ going g c p k
-        same-list = gather-same (leaving g c p) g k m l (λ j a b. leaving-not g R c p j (free j a b))
+        same-list = gather-same (leaving g c p) g k m l (λ j a b. rw (free j a b))
 
     -- One entry of the column more: its option loses it, or is deleted.
     module _ (r : ℕ) (G : Going g c p np heads up down r) (e : EntryOf (g .plan) r) (o : g .on r ≡ true) (q : g .plan .col r ≡ c) (apart : c ≢ p) where

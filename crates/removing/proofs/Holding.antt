@@ -3,28 +3,28 @@ use Prim.Native.Nat.{ℕ, _+_, _<_, _≤_}
 use native.Mathlib.Omega.{arith}
 use mathlib.Core.Path.{_≡_, _∙_, ap, sym, subst}
 use mathlib.Core.Logic.{_≢_}
-use mathlib.Core.Bool.{Bool, true, false, _&&_, _||_}
+use mathlib.Core.Bool.{Bool, true, false, _||_}
 use mathlib.Core.List.{List, [], _∷_}
-use borrow.Author.Tests.{eq-eqb, ne-eqb, eqb-true}
-use lib.Dec.{T, eqb}
+use borrow.Author.Tests.{eq-eqb, ne-eqb}
+use lib.Dec.{T, eqb, eqb→eq}
 use lib.ListN.{length}
 use lib.IntN.{ℤ}
 use Rattle.rules.specs.Lists.{any}
-use Rattle.theorems.proofs.Words.Tests.{T-same, T-and, and-T, T-true, true-T}
+use Rattle.theorems.proofs.Words.Tests.{T-same, eq→eqb}
 use Rattle.theorems.proofs.Words.Lists.{any→, any←, any-append}
 use Rattle.links.specs.Head.{itemOf, head}
 use Rattle.links.specs.Column.{at}
 use Rattle.links.specs.Plan.{EntryOf}
 use Rattle.links.specs.Ground.{Ground, Tidy}
-use Rattle.links.specs.Row.{span, walked, others}
+use Rattle.links.specs.Row.{walked, others}
 use Rattle.links.specs.Way.{way}
 use Rattle.links.specs.Shown.{Ready}
 use Rattle.links.specs.Taking.{holdsColumn}
-use Rattle.links.proofs.Plans.{entry-till, row-entry}
-use Rattle.links.proofs.Spans.{In-span, span-In}
+use Rattle.links.proofs.Plans.{entry-till}
 use Rattle.links.proofs.Rows.{At, place-in, walk-begins, walked-none, full-item, full-at, full-walked, full-way, over-at, over-walked, over-way, In-others, others-In}
 use Rattle.removing.specs.Removing.{Walking, holdsOther}
 use Rattle.removing.proofs.Fronts.{walked-front}
+use Rattle.removing.proofs.Leaving.{holds→, holds←}
 
 -- The walk is at q, and has met no entry of column p.
 pub record Looking (g : Ground) (r p q : ℕ) : Type 0 where
@@ -105,25 +105,14 @@ module _ (g : Ground) (r : ℕ) (heads : List ℤ) (up : List ℕ) (w : Walking 
 pub other-holds : (g : Ground) → Ready g → (r p : ℕ) → EntryOf (g .plan) r → g .on r ≡ true → g .plan .col r ≢ p → holdsOther g r p ≡ holdsColumn g (g .plan .number r) p
 other-holds g R r p e on d = T-same (holdsOther g r p) (holdsColumn g (g .plan .number r) p) to from
   where
-    row : List ℕ
-    row = span (g .plan .first (g .plan .number r)) (g .plan .past (g .plan .number r))
-
     to : T (holdsOther g r p) → T (holdsColumn g (g .plan .number r) p)
     to h =
         let u = any→ (λ y. eqb (g .plan .col y) p) (others g r) h in
         let v = In-others g (R .tidy) r e (u .1) in
-        any← (λ z. g .on z && eqb (g .plan .col z) p) row
-        (span-In (g .plan .first (g .plan .number r)) (g .plan .past (g .plan .number r)) (subst (λ (k : ℕ). g .plan .first k ≤ u .0) (v .1) (v .0 .from)) (subst (λ (k : ℕ). u .0 < g .plan .past k) (v .1) (v .0 .till)))
-        (and-T (g .on (u .0)) (eqb (g .plan .col (u .0)) p) (true-T (R .whole .mates r (u .0) e (v .0) (sym (v .1)) on (v .3))) (u .2))
+        subst (λ (k : ℕ). T (holdsColumn g k p)) (v .1) (holds← g (R .tidy) (u .0) p (v .0) (R .whole .mates r (u .0) e (v .0) (sym (v .1)) on (v .3)) (eqb→eq (g .plan .col (u .0)) p (u .2)))
 
     from : T (holdsColumn g (g .plan .number r) p) → T (holdsOther g r p)
     from h =
-        let u = any→ (λ z. g .on z && eqb (g .plan .col z) p) row h in
-        let s = In-span (g .plan .first (g .plan .number r)) (g .plan .past (g .plan .number r)) (u .1) in
-        let b = T-and (g .on (u .0)) (eqb (g .plan .col (u .0)) p) (u .2) in
-        let y = row-entry (g .plan) (R .tidy .planned) (g .plan .number r) (u .0) (e .option) (s .0) (s .1) in
-        let c = eqb-true (g .plan .col (u .0)) p (T-true (eqb (g .plan .col (u .0)) p) (b .1)) in
+        let w = holds→ g (R .tidy) (g .plan .number r) p (e .option) h in
         any← (λ y. eqb (g .plan .col y) p) (others g r)
-        (others-In g (R .tidy) r e y (R .tidy .planned .numbered (g .plan .number r) (u .0) (e .option) (s .0) (s .1)) (λ q. d (sym (ap (g .plan .col) q) ∙ c))
-        (R .tidy .full (u .0) y (T-true (g .on (u .0)) (b .0))))
-        (b .1)
+        (others-In g (R .tidy) r e (w .1) (w .2) (λ q. d (sym (ap (g .plan .col) q) ∙ w .4)) (R .tidy .full (w .0) (w .1) (w .3))) (eq→eqb (g .plan .col (w .0)) p (w .4))

@@ -1,24 +1,24 @@
 -- Which nodes go when an item is removed: the others of every option that holds it and not p. All of them are in columns in sight, and the
 -- nodes that stay are those of the mask without the item. Assumes nothing.
-use Prim.Native.Nat.{ℕ, zero, suc, _<_, _≤_}
+use Prim.Native.Nat.{ℕ, zero, suc, _<_}
 use native.Mathlib.Omega.{arith}
 use mathlib.Core.Path.{_≡_, refl, _∙_, ap, sym, subst}
 use mathlib.Core.Logic.{⊎-elim, _≢_}
-use mathlib.Core.Bool.{Bool, true, false, not, _&&_, cond}
+use mathlib.Core.Bool.{Bool, true, not, _&&_, cond}
 use mathlib.Core.List.{List, [], _++_, List·Memᴰ as In}
-use borrow.Author.Tests.{eqb-true, leb-true, le-leb, eq-eqb}
-use lib.Dec.{T, leb, eqb}
-use Rattle.theorems.proofs.Words.Tests.{T-and, and-T, T-true, true-T}
+use lib.Dec.{T, eqb, eqb→eq}
+use Rattle.theorems.proofs.Words.Tests.{T-and, and-T, T-true, true-T, eq→eqb}
 use Rattle.theorems.proofs.Words.Lists.{any→, any←}
 use Rattle.links.specs.Plan.{start, lo, hi, EntryOf}
 use Rattle.links.specs.Ground.{Ground, Tidy, Within, Fresh}
 use Rattle.links.specs.Row.{span, others}
 use Rattle.links.specs.Shown.{Ready}
 use Rattle.links.specs.Taking.{gatherTo, inColumn, holdsColumn, leaving, offColumn}
-use Rattle.links.proofs.Plans.{entry-from, header-before, row-entry}
+use Rattle.links.proofs.Plans.{entry-from, row-entry}
 use Rattle.links.proofs.Spans.{In-span, span-In}
 use Rattle.links.proofs.Rows.{In-others}
 use Rattle.links.proofs.Gathering.{In-gather, gather-fresh}
+use Rattle.links.proofs.Descending.{column→, column←, on-entry}
 use Rattle.removing.proofs.OffColumn.{off←, tidy-off}
 
 -- the same nodes are gathered where a column is out of sight
@@ -34,17 +34,14 @@ module _ (g : Ground) (t : Tidy g) where
       let u = any→ (λ z. g .on z && eqb (g .plan .col z) i) (span (g .plan .first k) (g .plan .past k)) h in
       let s = In-span (g .plan .first k) (g .plan .past k) (u .1) in
       let b = T-and (g .on (u .0)) (eqb (g .plan .col (u .0)) i) (u .2) in
-      (u .0, row-entry (g .plan) (t .planned) k (u .0) l (s .0) (s .1), t .planned .numbered k (u .0) l (s .0) (s .1), T-true (g .on (u .0)) (b .0), eqb-true (g .plan .col (u .0)) i (T-true (eqb (g .plan .col (u .0)) i) (b .1)))
+      (u .0, row-entry (g .plan) (t .planned) k (u .0) l (s .0) (s .1), t .planned .numbered k (u .0) l (s .0) (s .1), T-true (g .on (u .0)) (b .0), eqb→eq (g .plan .col (u .0)) i (b .1))
 
   pub holds← : (z i : ℕ) → EntryOf (g .plan) z → g .on z ≡ true → g .plan .col z ≡ i → T (holdsColumn g (g .plan .number z) i)
   holds← z i e o q =
       any← (λ z. g .on z && eqb (g .plan .col z) i) (span (lo (g .plan) z) (hi (g .plan) z)) (span-In (lo (g .plan) z) (hi (g .plan) z) (e .from) (e .till))
-      (and-T (g .on z) (eqb (g .plan .col z) i) (true-T o) (true-T (eq-eqb (g .plan .col z) i q)))
+      (and-T (g .on z) (eqb (g .plan .col z) i) (true-T o) (eq→eqb (g .plan .col z) i q))
 
-  -- a node behind the headers that is in a column is an entry, one before them its own column's header
-  pub column-entry : (k : ℕ) → g .on k ≡ true → start (g .plan) ≤ k → EntryOf (g .plan) k
-  column-entry k o l = ⊎-elim (λ h. absurd (omega (arith, header-before (g .plan) (t .planned) k h, l))) (λ e. e) (t .masked k o)
-
+  -- a node before the entries that is in a column is its own column's header
   pub column-header : (k : ℕ) → g .on k ≡ true → k < start (g .plan) → g .plan .col k ≡ k
   column-header k o l = ⊎-elim (λ h. t .planned .header k h) (λ e. absurd (omega (arith, entry-from (g .plan) (t .planned) k e, l))) (t .masked k o)
 
@@ -55,21 +52,12 @@ module _ (g : Ground) (R : Ready g) (c p : ℕ) where
   leaving→ : (k : ℕ) → leaving g c p k ≡ true → EntryOf (g .plan) k × (g .on k ≡ true) × (g .plan .col k ≡ c) × T (not (holdsColumn g (g .plan .number k) p))
   leaving→ k e =
       let a = T-and (inColumn g c k) (not (holdsColumn g (g .plan .number k) p)) (true-T e) in
-      let b = T-and (g .on k && eqb (g .plan .col k) c) (leb (start (g .plan)) k) (a .0) in
-      let d = T-and (g .on k) (eqb (g .plan .col k) c) (b .0) in
-      let o = T-true (g .on k) (d .0) in
-      (column-entry g t k o (leb-true (start (g .plan)) k (T-true (leb (start (g .plan)) k) (b .1))), o, eqb-true (g .plan .col k) c (T-true (eqb (g .plan .col k) c) (d .1)), a .1)
+      let w = column→ g c k (T-true (inColumn g c k) (a .0)) in
+      (on-entry g t k (w .0) (w .2), w .0, w .1, a .1)
 
   -- an entry of the column goes or stays by what its option holds
   pub leaving-is : (k : ℕ) → EntryOf (g .plan) k → g .on k ≡ true → g .plan .col k ≡ c → leaving g c p k ≡ not (holdsColumn g (g .plan .number k) p)
-  leaving-is k e o q = rw (o, eq-eqb (g .plan .col k) c q, le-leb (start (g .plan)) k (entry-from (g .plan) (t .planned) k e))
-
-  pub leaving-not : (k : ℕ) → (EntryOf (g .plan) k → g .on k ≡ true → g .plan .col k ≢ c) → leaving g c p k ≡ false
-  leaving-not k n = go (leaving g c p k) refl
-    where
-      go : (b : Bool) → leaving g c p k ≡ b → b ≡ false
-      go true e = let w = leaving→ k e in absurd (n (w .0) (w .1) (w .2))
-      go false e = refl
+  leaving-is k e o q = rw (column← g c k o q (entry-from (g .plan) (t .planned) k e))
 
   -- a node that goes, when the nodes below k are passed: j is the entry of its option in column c
   pub record Goes (k y : ℕ) : Type 0 where

@@ -3,13 +3,13 @@ pub mod Fronts
 pub mod TakingOut
 pub mod Deletes
 pub mod WholeOption
-pub mod Holding
 pub mod Dropping
 pub mod OffColumn
 pub mod Shortening
 pub mod EmptyColumn
 pub mod Alike
 pub mod Leaving
+pub mod Holding
 pub mod Staying
 pub mod Going
 pub mod Removes

@@ -1,31 +1,27 @@
 -- A column that goes out of sight, header and all, leaves the lists tidy. Assumes nothing.
-use Prim.Native.Nat.{ℕ, _-_, _≤_}
-use native.Mathlib.Omega.{arith}
-use mathlib.Core.Path.{_≡_, refl, _∙_, ap, sym, subst}
+use Prim.Native.Nat.{ℕ, _-_}
+use mathlib.Core.Path.{_≡_, refl, _∙_, ap, sym}
 use mathlib.Core.Logic.{inl, inr, ⊎-elim, _≢_}
-use mathlib.Core.Bool.{Bool, true, false, not, _&&_}
-use borrow.Author.Tests.{eq-eqb, eqb-true}
-use lib.Dec.{T, eqb}
+use mathlib.Core.Bool.{Bool, true, false, not, _&&_, and-false}
+use borrow.Author.Tests.{eq-eqb, ne-eqb}
+use lib.Dec.{eqb}
 use lib.IntN.{pos}
-use Rattle.rules.specs.Lists.{count, from}
+use Rattle.rules.specs.Lists.{from}
 use Rattle.theorems.proofs.Words.Tests.{T-and, and-T, T-true, true-T, neqb→ne, ne→neqb}
-use Rattle.theorems.proofs.Words.Counts.{count-le}
+use Rattle.theorems.proofs.Words.Counts.{count-cong}
 use Rattle.links.specs.Column.{at, Tied}
 use Rattle.links.specs.Plan.{Plan, start, Header}
 use Rattle.links.specs.Ground.{Ground, tally, Tidy}
 use Rattle.links.specs.Taking.{offColumn}
+use Rattle.links.proofs.Stores.{same?}
 use Rattle.links.proofs.Rings.{above-col}
 
 -- A column's length depends on the mask of its entries only.
 pub tally-alike : (P : Plan) (on on′ : ℕ → Bool) (i : ℕ) → ((y : ℕ) → P .col y ≡ i → on y ≡ on′ y) → tally P on i ≡ tally P on′ i
 unfolding tally
-tally-alike P on on′ i h = omega (arith, half on on′ h, half on′ on (λ y e. sym (h y e)))
-  where
-    half : (a b : ℕ → Bool) → ((y : ℕ) → P .col y ≡ i → a y ≡ b y)
-        → count (λ y. a y && eqb (P .col y) i) (from (start P) (P .N - start P)) ≤ count (λ y. b y && eqb (P .col y) i) (from (start P) (P .N - start P))
-    half a b f =
-        count-le (λ y. a y && eqb (P .col y) i) (λ y. b y && eqb (P .col y) i) (from (start P) (P .N - start P))
-        (λ y m t. let w = T-and (a y) (eqb (P .col y) i) t in and-T (b y) (eqb (P .col y) i) (subst T (f y (eqb-true (P .col y) i (T-true (eqb (P .col y) i) (w .1)))) (w .0)) (w .1))
+tally-alike P on on′ i h =
+    count-cong (λ y. on y && eqb (P .col y) i) (λ y. on′ y && eqb (P .col y) i) (from (start P) (P .N - start P))
+    (λ y m. ⊎-elim (λ e. rw (h y e)) (λ n. rw (ne-eqb (P .col y) i n) (and-false (on y) ∙ sym (and-false (on′ y)))) (same? (P .col y) i))
 
 module _ (g : Ground) (c : ℕ) where
   pub off→ : (y : ℕ) → offColumn g c .on y ≡ true → (g .on y ≡ true) × (g .plan .col y ≢ c)

@@ -1,13 +1,12 @@
 -- Removing an item: the walk down its column from its beginning to its end, and that the lists are ready for the next step then.
 -- Assumes nothing.
-use Prim.Native.Nat.{ℕ, _+_, _-_, _<_, _≤_}
+use Prim.Native.Nat.{ℕ, _+_, _<_, _≤_}
 use native.Mathlib.Omega.{arith}
 use mathlib.Core.Path.{_≡_, refl, _∙_, ap, sym, subst}
-use mathlib.Core.Logic.{_⊎_, inl, inr, ⊎-elim, _≢_}
-use mathlib.Core.Bool.{Bool, true, false, not, _||_, cond, false≢true}
+use mathlib.Core.Logic.{inl, inr, ⊎-elim, _≢_}
+use mathlib.Core.Bool.{Bool, true, false, not, _||_, false≢true}
 use mathlib.Core.List.{List}
-use borrow.Author.Tests.{lt-ltb, le-ltb}
-use lib.Dec.{T, ltb}
+use lib.Dec.{T}
 use lib.ListN.{length, set}
 use lib.Seq.{getD-set-other}
 use lib.IntN.{ℤ, pos}
@@ -19,30 +18,22 @@ use Rattle.links.specs.Ground.{Ground, Tidy}
 use Rattle.links.specs.Shown.{Ready}
 use Rattle.links.specs.Taking.{firstOut, leaving, holdsColumn, offColumn, leaves, maskWithout}
 use Rattle.links.proofs.Stores.{same?, less?}
-use Rattle.links.proofs.Rings.{next-is}
 use Rattle.links.proofs.Plans.{entry-from, entry-till, entry-no-header, header-before}
 use Rattle.links.proofs.Grounds.{on-taken}
+use Rattle.links.proofs.Descending.{Stand, on-entry, reach, reach-past, reach-at, left, stand-header, stand-in, stand-next, step-gap, step-far, step-less, header-gap}
 use Rattle.removing.specs.Deleting.{Deleting}
 use Rattle.removing.specs.Removing.{Dropped, Removing, removed, Removed}
 use Rattle.removing.proofs.Emptying.{first-gather}
 use Rattle.removing.proofs.OffColumn.{off→}
 use Rattle.removing.proofs.EmptyColumn.{tidy-empty}
-use Rattle.removing.proofs.Leaving.{holds←, column-entry, column-header}
+use Rattle.removing.proofs.Leaving.{holds←}
 use Rattle.removing.proofs.Staying.{keeps, stays→, →stays, stays-same}
 use Rattle.removing.proofs.Going.{going, midst, Going, going-begin, going-past, going-deletes, passed-first, passed-going}
 
--- A walk down a column at node r has passed the nodes below r, and all of them when it is at the header again.
-abbrev pub reach : Ground → ℕ → ℕ
-reach g r = cond (ltb r (start (g .plan))) (g .plan .N) r
-
--- how far it has still to go, by numbers that the code has at hand
-abbrev pub below : ℕ → ℕ → ℕ → ℕ
-below n first r = cond (ltb r first) 0 (n - r)
-
+-- A walk down the column at node r has passed the nodes below r, and all of them when it is at the header again.
 pub record Place (g : Ground) (c p np : ℕ) (heads : List ℤ) (up down : List ℕ) (r : ℕ) : Type 0 where
-  pub on : g .on r ≡ true
-  pub col : g .plan .col r ≡ c
-  pub so-far : Going g c p np heads up down (reach g r)
+  pub stand : Stand g c r
+  pub so-far : Going g c p np heads up down (reach (g .plan) r)
 
 module _ (g : Ground) (c p first : ℕ) (heads₀ : List ℤ) (up₀ down₀ : List ℕ) (Q : Removing g c p first heads₀ up₀ down₀) where
   R : Ready g
@@ -51,40 +42,24 @@ module _ (g : Ground) (c p first : ℕ) (heads₀ : List ℤ) (up₀ down₀ : L
   t : Tidy g
   t = R .tidy
 
-  -- no entry of the column lies between a node of it and the one below
-  between : (x : ℕ) → g .on x ≡ true → g .plan .col x ≡ c → (j : ℕ) → x < j → j < reach g (at (g .down) x) → g .on j ≡ true → g .plan .col j ≢ c
-  between x o q j l b i s =
-      let n = next-is (g .plan .N) (g .plan .col) (g .on) (g .up) (g .down) (t .ring) (t .planned .low) x j o i (s ∙ sym q) l in
-      ⊎-elim (λ (a : at (g .down) x < start (g .plan)).
-      let r = t .ring .tied x o in
-      omega (arith, n .0, sym (column-header g t (at (g .down) x) (r .below-on) a) ∙ r .below-col, t .planned .low x))
-      (λ a. let e : reach g (at (g .down) x) ≡ at (g .down) x = rw (le-ltb (at (g .down) x) (start (g .plan)) a) in omega (arith, n .1, e)) (less? (at (g .down) x) (start (g .plan)))
-
   pub remove-in : c < length down₀
   remove-in = rw (Q .holds .down-are) (omega (arith, header-before (g .plan) (t .planned) c (Q .item), t .planned .room, t .ring .downs))
 
   module _ (np : ℕ) where
     pub remove-begin : Place g c p np heads₀ up₀ down₀ (at down₀ c)
-    remove-begin = rw (Q .holds .heads-are, Q .holds .up-are, Q .holds .down-are) first-place
+    remove-begin = rw (Q .holds .heads-are, Q .holds .up-are, Q .holds .down-are) (record {
+      stand = stand-next g t c (Q .item) c top;
+      so-far = going-past g R c p np (g .heads) (g .up) (g .down) 0 (reach (g .plan) (at (g .down) c)) (going-begin g R c p np) (omega arith)
+          (λ j a b. ⊎-elim (λ l. header-gap g t c (Q .item) j l) (λ l. step-gap g t c (Q .item) c top j l b) (less? j (c + 1)));
+    })
       where
-        own-on : g .on c ≡ true
-        own-on = R .whole .headers c (Q .item)
-
-        own-col : g .plan .col c ≡ c
-        own-col = t .planned .header c (Q .item)
-
-        first-place : Place g c p np (g .heads) (g .up) (g .down) (at (g .down) c)
-        first-place = record {
-          on = t .ring .tied c own-on .below-on;
-          col = t .ring .tied c own-on .below-col ∙ own-col;
-          so-far = going-past g R c p np (g .heads) (g .up) (g .down) 0 (reach g (at (g .down) c)) (going-begin g R c p np) (omega arith)
-              (λ j a b e i. between c own-on own-col j (omega (arith, header-before (g .plan) (t .planned) c (Q .item), entry-from (g .plan) (t .planned) j e)) b i);
-        }
+        top : Stand g c c
+        top = stand-header g t c (Q .item) (R .whole .headers c (Q .item))
 
     module _ (heads : List ℤ) (up down : List ℕ) (r : ℕ) (M : Place g c p np heads up down r) where
       pub remove-node : (r < length heads₀) × (r < length down₀)
       remove-node =
-          let i = t .ring .tied r (M .on) .inside in
+          let i = stand-in g t c (Q .item) r (M .stand) in
           (rw (Q .holds .heads-are) (omega (arith, i, t .heads-in)), rw (Q .holds .down-are) (omega (arith, i, t .ring .downs)))
 
       -- at an entry
@@ -93,24 +68,20 @@ module _ (g : Ground) (c p first : ℕ) (heads₀ : List ℤ) (up₀ down₀ : L
         behind = omega (arith, l, Q .starts)
 
         entry : EntryOf (g .plan) r
-        entry = column-entry g t r (M .on) behind
+        entry = on-entry g t r (M .stand .on) behind
 
         here : Going g c p np heads up down r
-        here = subst (Going g c p np heads up down) (ap (λ (b : Bool). cond b (g .plan .N) r) (le-ltb r (start (g .plan)) behind)) (M .so-far)
+        here = subst (Going g c p np heads up down) (reach-at (g .plan) r behind) (M .so-far)
 
         pub remove-deletes : Deleting (midst g c p r heads up down) r heads up down
-        remove-deletes = going-deletes g R c p np heads up down r here entry (M .on) (M .col) (Q .apart)
+        remove-deletes = going-deletes g R c p np heads up down r here entry (M .stand .on) (M .stand .col) (Q .apart)
 
         onwards : (next : ℕ) → next ≡ at down r → next ≡ at (g .down) r
-        onwards next e = e ∙ here .ahead r (M .on) (M .col) (omega arith)
-
-        -- the next node is further down, or the header
-        lower : (at (g .down) r < start (g .plan)) ⊎ (r < at (g .down) r)
-        lower = ⊎-elim (λ a. inr a) (λ a. inl (omega (arith, a, M .col, header-before (g .plan) (t .planned) c (Q .item)))) (t .ring .tied r (M .on) .rises)
+        onwards next e = e ∙ here .ahead r (M .stand .on) (M .stand .col) (omega arith)
 
         module _ (heads′ : List ℤ) (up′ down′ : List ℕ) (z : ℕ) (D : Dropped (midst g c p r heads up down) np r p heads′ up′ down′ z) where
           found : z ≡ firstOut (offColumn g c) np (going g c p (r + 1))
-          found = passed-first g R c p np heads up down r here entry (M .on) (M .col) (Q .apart) heads′ up′ down′ z D
+          found = passed-first g R c p np heads up down r here entry (M .stand .on) (M .stand .col) (Q .apart) heads′ up′ down′ z D
 
           pub remove-stop : z ≢ 0 → Removed g c p np heads′ up′ down′ z
           unfolding leaves
@@ -124,28 +95,20 @@ module _ (g : Ground) (c p first : ℕ) (heads₀ : List ℤ) (up₀ down₀ : L
           remove-next e next s =
               subst (Place g c p np heads′ up′ down′) (sym (onwards next s))
               (record {
-                on = t .ring .tied r (M .on) .below-on;
-                col = t .ring .tied r (M .on) .below-col ∙ M .col;
-                so-far = going-past g R c p np heads′ up′ down′ (r + 1) (reach g (at (g .down) r))
-                    (passed-going g R c p np heads up down r here entry (M .on) (M .col) (Q .apart) heads′ up′ down′ z D e) further
-                    (λ j a b y i. between r (M .on) (M .col) j (omega arith) b i);
+                stand = stand-next g t c (Q .item) r (M .stand);
+                so-far = going-past g R c p np heads′ up′ down′ (r + 1) (reach (g .plan) (at (g .down) r))
+                    (passed-going g R c p np heads up down r here entry (M .stand .on) (M .stand .col) (Q .apart) heads′ up′ down′ z D e)
+                    (step-far g t c (Q .item) r (M .stand) .0) (step-gap g t c (Q .item) r (M .stand));
               })
-            where
-              further : r + 1 ≤ reach g (at (g .down) r)
-              further =
-                  ⊎-elim (λ a. rw (lt-ltb (at (g .down) r) (start (g .plan)) a) (omega (arith, entry-till (g .plan) (t .planned) r entry)))
-                  (λ a. rw (le-ltb (at (g .down) r) (start (g .plan)) a) (⊎-elim (λ b. absurd (omega (arith, a, b))) (λ b. omega (arith, b)) lower)) (less? (at (g .down) r) (start (g .plan)))
 
-        pub remove-way : (next : ℕ) → next ≡ at down r → below (length heads₀) first next < below (length heads₀) first r
+        pub remove-way : (next : ℕ) → next ≡ at down r → left (length heads₀) first next < left (length heads₀) first r
         remove-way next s =
-            rw (onwards next s, le-ltb r first l)
-            (⊎-elim (λ a. rw (lt-ltb (at (g .down) r) first a) (omega (arith, remove-node .0)))
-            (λ a. rw (le-ltb (at (g .down) r) first a) (⊎-elim (λ b. absurd (omega (arith, a, b, Q .starts))) (λ b. omega (arith, b, remove-node .0)) lower)) (less? (at (g .down) r) first))
+            rw (onwards next s, Q .starts) (step-less g t c (Q .item) r (M .stand) (length heads₀) (rw (Q .holds .heads-are) (t .heads-in)) behind)
 
       -- at the header again
       module _ (l : r < first) where
         done : Going g c p np heads up down (g .plan .N)
-        done = subst (Going g c p np heads up down) (ap (λ (b : Bool). cond b (g .plan .N) r) (lt-ltb r (start (g .plan)) (omega (arith, l, Q .starts)))) (M .so-far)
+        done = subst (Going g c p np heads up down) (reach-past (g .plan) r (omega (arith, l, Q .starts))) (M .so-far)
 
         before : c < g .plan .N
         before = omega (arith, header-before (g .plan) (t .planned) c (Q .item), t .planned .room)

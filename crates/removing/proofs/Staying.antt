@@ -17,8 +17,9 @@ use Rattle.links.proofs.Plans.{entry-from, entry-till}
 use Rattle.links.proofs.Grounds.{taken-on, on-taken}
 use Rattle.links.proofs.Rows.{others-In}
 use Rattle.links.proofs.Gathering.{gather-In}
+use Rattle.links.proofs.Descending.{on-entry}
 use Rattle.removing.proofs.OffColumn.{off→, off←}
-use Rattle.removing.proofs.Leaving.{holds→, holds←, column-entry, column-header, leaving-is, Goes, goes}
+use Rattle.removing.proofs.Leaving.{holds→, holds←, column-header, leaving-is, Goes, goes}
 
 -- an option that held c and does not hold p does not stay
 abbrev pub keeps : Ground → ℕ → ℕ → ℕ → Bool
@@ -69,7 +70,7 @@ module _ (g : Ground) (R : Ready g) (c p : ℕ) where
       from h =
           let w = on-taken (offColumn g c) (gatherTo (leaving g c p) g (g .plan .N)) y h in
           let v = off→ g c y (w .0) in
-          →stays g c p y (v .0) (⊎-elim (λ l. inl l) (λ l. inr (v .1, kept (column-entry g t y (v .0) l) (v .0) (v .1) (w .1))) (less? y (start (g .plan))))
+          →stays g c p y (v .0) (⊎-elim (λ l. inl l) (λ l. inr (v .1, kept (on-entry g t y (v .0) l) (v .0) (v .1) (w .1))) (less? y (start (g .plan))))
         where
           kept : EntryOf (g .plan) y → g .on y ≡ true → g .plan .col y ≢ c → (In y (gatherTo (leaving g c p) g (g .plan .N)) → ⊥) → T (keeps g c p y)
           kept e o d out = imp-T (holdsColumn g (g .plan .number y) c) (holdsColumn g (g .plan .number y) p) (λ h. ⊎-elim (λ k. k) (λ k. absurd (out (left h k))) (T-dec (holdsColumn g (g .plan .number y) p)))

@@ -9,7 +9,7 @@ use lib.IntN.{ℤ}
 use Rattle.rules.specs.Lists.{each, from, upTo, written}
 use Rattle.rules.specs.Result.{Numbered, keptOptions, resultsOf}
 use Rattle.theorems.proofs.Words.Tests.{T-and}
-use Rattle.theorems.proofs.Words.Lists.{keep-none, each-append}
+use Rattle.theorems.proofs.Words.Lists.{keep-none, each-append, from-split}
 use Rattle.links.specs.Head.{itemOf, head}
 use Rattle.links.specs.Plan.{start, Header}
 use Rattle.links.specs.Ground.{Ground, tally}
@@ -18,7 +18,6 @@ use Rattle.links.specs.Shown.{shown, Ready}
 use Rattle.links.specs.Taking.{inColumn}
 use Rattle.links.proofs.Plans.{entry-from, entry-till, header-before}
 use Rattle.links.proofs.Tallies.{tally-some}
-use Rattle.showing.proofs.Around.{from-split}
 use Rattle.showing.proofs.Columns.{column→}
 use Rattle.result.specs.Left.{leadAt, optionFrom, columnTo, columnOptions, optionsTo}
 use Rattle.result.specs.Writing.{Out, Written, Suffices}

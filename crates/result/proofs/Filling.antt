@@ -1,35 +1,22 @@
 -- Writing the front of a list, one element after another. Assumes nothing.
-use Prim.Native.Nat.{ℕ, suc, _+_, _-_, _<_, _≤_}
+use Prim.Native.Nat.{ℕ, suc, _+_, _<_, _≤_}
 use native.Mathlib.Omega.{arith}
 use mathlib.Core.Path.{_≡_, refl, _∙_, ap, sym, subst}
-use mathlib.Core.List.{List, [], _∷_, _++_, map, map-append, append-assoc}
+use mathlib.Core.List.{List, [], _∷_, _++_, map, map-append}
 use lib.ListN.{length, getD, take, drop, set, length-append, length-drop, length-map}
-use lib.Seq.{drop-cons, set-append-seam, take-suc, take-length, length-take-le, drop-length}
+use lib.Seq.{take-suc, take-length, length-take-le, drop-length}
 use Rattle.rules.specs.Lists.{written}
+use Rattle.theorems.proofs.Words.Written.{written-length, written-behind}
 use Rattle.result.specs.Filled.{Filled}
 
 module _ {A : Type 0} where
-  -- one more
-  pub written-more : (xs old : List A) (v : A) → length xs < length old → set (written xs old) (length xs) v ≡ written (xs ++ (v ∷ [])) old
-  written-more xs old v h =
-      ap (λ (r : List A). set (xs ++ r) (length xs) v) (drop-cons old (length xs) v h)
-      ∙ set-append-seam xs (getD old (length xs) v) (drop (suc (length xs)) old) v
-      ∙ sym (append-assoc xs (v ∷ []) (drop (suc (length xs)) old))
-      ∙ ap (λ (k : ℕ). (xs ++ (v ∷ [])) ++ drop k old) (longer xs)
-    where
-      longer : (xs : List A) → suc (length xs) ≡ length (xs ++ (v ∷ []))
-      longer xs = let e = length-append xs (v ∷ []) in omega arith
-
-  pub written-length : (xs old : List A) → length xs ≤ length old → length (written xs old) ≡ length old
-  written-length xs old h = let a = length-append xs (drop (length xs) old) in let b = length-drop (length xs) old in omega arith
-
   -- a list of which the front is made anew, element by element, and at last the whole
   pub remade : (f : A → A) (l : List A) (i : ℕ) (d : A) → i < length l → set (written (map f (take i l)) l) i (f (getD l i d)) ≡ written (map f (take (i + 1) l)) l
   remade f l i d h =
       let n : length (map f (take i l)) ≡ i = length-map (take i l) f ∙ length-take-le i l (omega arith) in
       let e : suc i ≡ i + 1 = omega arith in
       ap (λ (k : ℕ). set (written (map f (take i l)) l) k (f (getD l i d))) (sym n)
-      ∙ written-more (map f (take i l)) l (f (getD l i d)) (omega arith)
+      ∙ written-behind (map f (take i l)) (f (getD l i d) ∷ []) l (omega arith)
       ∙ ap (λ (r : List A). written r l) (sym (map-append f (take i l) (getD l i d ∷ [])) ∙ ap (map f) (sym (take-suc l i d h)) ∙ ap (λ (k : ℕ). map f (take k l)) e)
 
   pub remade-all : (f : A → A) (l : List A) (i : ℕ) → i ≡ length l → written (map f (take i l)) l ≡ map f l
@@ -51,7 +38,7 @@ module _ (old xs list : List ℕ) (at : ℕ) (f : Filled old xs list at) where
 
   pub filled-more : (v : ℕ) → at < length list → Filled old (xs ++ (v ∷ [])) (set list at v) (at + 1)
   filled-more v h = record {
-    list-is = ap (λ (l : List ℕ). set l at v) (f .list-is) ∙ ap (λ (k : ℕ). set (written xs old) k v) (f .at-is) ∙ written-more xs old v (filled-room h);
+    list-is = ap (λ (l : List ℕ). set l at v) (f .list-is) ∙ ap (λ (k : ℕ). set (written xs old) k v) (f .at-is) ∙ written-behind xs (v ∷ []) old (omega (arith, filled-room h));
     at-is = let e = length-append xs (v ∷ []) in omega (arith, f .at-is, e);
   }
 

@@ -15,7 +15,7 @@ use Rattle.rules.specs.State.{optionAt, entriesAfter, entriesBefore, itemsOf, a
 use Rattle.rules.specs.Blocked.{secondToFirst}
 use Rattle.theorems.proofs.Words.Tests.{T-true, true-T, false-T, T-same}
 use borrow.Author.Tests.{eq-eqb, ne-eqb}
-use Rattle.theorems.proofs.Words.Lists.{keep→, keep-cong, keep-none, none-any, In-map}
+use Rattle.theorems.proofs.Words.Lists.{keep→, keep-append, keep-cong, keep-none, none-any, In-map, from-split}
 use Rattle.links.specs.Head.{itemOf, head}
 use Rattle.links.specs.Plan.{lo, hi, EntryOf, Planned}
 use Rattle.links.specs.Ground.{Ground, Short}
@@ -24,17 +24,9 @@ use Rattle.links.specs.Shown.{entryAt, rowOf, Ready}
 use Rattle.links.proofs.Plans.{row-entry}
 use Rattle.links.proofs.Spans.{In-span}
 use Rattle.showing.specs.Showing.{stateOf, fullBefore}
-use Rattle.showing.proofs.Lists.{keep-append}
 use Rattle.showing.proofs.Shows.{Linked, itemAt, col-some, col-item, item-col, linked-below, shown-at}
 
 -- Numbers in a row, in two parts
-
-pub from-split : (n i m : ℕ) → from i (n + m) ≡ from i n ++ from (i + n) m
-from-split zero i m = let e : 0 + m ≡ m = omega arith in let f : i ≡ i + 0 = omega arith in ap (from i) e ∙ ap (λ (j : ℕ). from j m) f
-from-split (suc n) i m =
-    let e : suc n + m ≡ suc (n + m) = omega arith in
-    let f : suc i + n ≡ i + suc n = omega arith in
-    ap (from i) e ∙ ap (λ (l : List ℕ). i ∷ l) (from-split n (suc i) m ∙ ap (λ (j : ℕ). from (suc i) n ++ from j m) f)
 
 -- those before y, y, and those after it
 pub span-split : (a y b : ℕ) → a ≤ y → y < b → span a b ≡ span a y ++ (y ∷ span (y + 1) b)

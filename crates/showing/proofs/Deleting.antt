@@ -21,7 +21,8 @@ use Rattle.links.specs.Taking.{firstOut}
 use Rattle.links.proofs.Stores.{same?}
 use Rattle.links.proofs.Rows.{In-others, others-In}
 use Rattle.showing.specs.Showing.{stateOf, columnOr, deletes, Condemns}
-use Rattle.showing.proofs.Lists.{keep-reverse, map-reverse, each-keep, each-map, map-each}
+use Rattle.theorems.proofs.Answers.EachFacts.{each-map, map-each}
+use Rattle.showing.proofs.Lists.{keep-reverse, map-reverse, each-keep}
 use Rattle.showing.proofs.Shows.{itemAt, col-some, own-option, shown-once, shown-options}
 use Rattle.showing.proofs.Around.{second-shown}
 use Rattle.showing.proofs.Lengths.{Counted, first-counted}

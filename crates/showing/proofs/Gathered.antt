@@ -12,7 +12,7 @@ use Rattle.rules.specs.Problem.{Entry}
 use Rattle.rules.specs.State.{optionAt, holds, holdsUncoloured, around}
 use Rattle.rules.specs.Redundant.{leavingWith}
 use Rattle.theorems.proofs.Words.Tests.{T-dec, T-true, T-false, true-T, T-and, and-T, T-same, eq→eqb}
-use Rattle.theorems.proofs.Words.Lists.{each-cong, In-upTo, each-append}
+use Rattle.theorems.proofs.Words.Lists.{each-cong, In-upTo, each-append, from-split}
 use Rattle.theorems.proofs.Steps.States.{uncoloured-holds}
 use Rattle.theorems.proofs.Laws.Hiding.{leavingHidden}
 use Rattle.links.specs.Plan.{EntryOf, Planned}
@@ -21,10 +21,11 @@ use Rattle.links.specs.Row.{others}
 use Rattle.links.specs.Shown.{Ready}
 use Rattle.links.specs.Taking.{gatherTo, inColumn, hidden, hides, holdsColumn, leaving, leaves}
 use Rattle.showing.specs.Showing.{stateOf}
-use Rattle.showing.proofs.Lists.{each-keep, each-map, map-each, each-each}
+use Rattle.theorems.proofs.Answers.EachFacts.{each-map, map-each}
+use Rattle.showing.proofs.Lists.{each-keep, each-each}
 use Rattle.showing.proofs.Shows.{Linked, itemAt, holds-node, node-holds, uncoloured-node, node-uncoloured, one-node, own-option, shown-options}
 use Rattle.showing.proofs.InOrder.{nodesIn, by-rows, row-one, row-none}
-use Rattle.showing.proofs.Around.{from-split, around-shown}
+use Rattle.showing.proofs.Around.{around-shown}
 use Rattle.showing.proofs.Columns.{column→, column←, column-holds}
 
 upTo-end : (n : ℕ) → upTo (suc n) ≡ upTo n ++ (n ∷ [])

@@ -26,7 +26,8 @@ use Rattle.links.specs.Taking.{lengthOf}
 use Rattle.links.proofs.Plans.{row-entry, entry-from, entry-till}
 use Rattle.links.proofs.Spans.{In-span, span-In}
 use Rattle.showing.specs.Showing.{stateOf}
-use Rattle.showing.proofs.Lists.{each-keep, map-each, each-single, length-each, sorted-append, sorted-one}
+use Rattle.theorems.proofs.Answers.EachFacts.{map-each, each-single}
+use Rattle.showing.proofs.Lists.{each-keep, length-each, sorted-append, sorted-one}
 use Rattle.showing.proofs.Shows.{Linked, shown-at, holds-node, node-holds, masked-entry}
 
 -- the nodes of option k, in their columns or not

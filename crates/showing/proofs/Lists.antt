@@ -10,19 +10,10 @@ use lib.Dec.{T}
 use lib.ListN.{length, getD, length-append}
 use Rattle.rules.specs.Lists.{keep, count, each}
 use Rattle.rules.specs.Promises.{distinct}
-use Rattle.theorems.proofs.Words.Lists.{In-map, In-reverse, each-append}
+use Rattle.theorems.proofs.Words.Lists.{In-map, In-reverse, each-append, keep-append}
 use Rattle.theorems.proofs.Words.Distinct.{distinct→, distinct←, distinct-append}
 use Rattle.theorems.proofs.Words.Order.{Ordered}
 use Rattle.theorems.proofs.Words.Rising.{rising-same}
-
--- keeping in two parts
-pub keep-append : {A : Type 0} (f : A → Bool) (l m : List A) → keep f (l ++ m) ≡ keep f l ++ keep f m
-keep-append f [] m = refl
-keep-append f (x ∷ l) m = go (f x) (keep-append f l m)
-  where
-    go : (b : Bool) → keep f (l ++ m) ≡ keep f l ++ keep f m → cond b (x ∷ keep f (l ++ m)) (keep f (l ++ m)) ≡ cond b (x ∷ keep f l) (keep f l) ++ keep f m
-    go true e = ap (λ (z : List _). x ∷ z) e
-    go false e = e
 
 pub keep-reverse : {A : Type 0} (f : A → Bool) (l : List A) → keep f (reverse l) ≡ reverse (keep f l)
 keep-reverse f [] = refl
@@ -76,21 +67,9 @@ module _ {A B : Type 0} where
   each-none f (x ∷ l) h = rw (h x (here refl)) (each-none f l (λ y m. h y (next m)))
 
 module _ {A B C : Type 0} where
-  pub each-map : (g : A → B) (f : B → List C) (l : List A) → each f (map g l) ≡ each (λ x. f (g x)) l
-  each-map g f [] = refl
-  each-map g f (x ∷ l) = ap (λ (z : List C). f (g x) ++ z) (each-map g f l)
-
-  pub map-each : (g : B → C) (f : A → List B) (l : List A) → map g (each f l) ≡ each (λ x. map g (f x)) l
-  map-each g f [] = refl
-  map-each g f (x ∷ l) = map-append g (f x) (each f l) ∙ ap (λ (z : List C). map g (f x) ++ z) (map-each g f l)
-
   pub each-each : (g : A → List B) (f : B → List C) (l : List A) → each f (each g l) ≡ each (λ x. each f (g x)) l
   each-each g f [] = refl
   each-each g f (x ∷ l) = each-append f (g x) (each g l) ∙ ap (λ (z : List C). each f (g x) ++ z) (each-each g f l)
-
-pub each-single : {A : Type 0} (l : List A) → each (λ k. k ∷ []) l ≡ l
-each-single [] = refl
-each-single (k ∷ l) = ap (λ (m : List _). k ∷ m) (each-single l)
 
 -- lists of at most one element, counted
 pub length-each : {A B : Type 0} (f : A → List B) (t : A → Bool) (l : List A) → ((x : A) → In x l → length (f x) ≡ cond (t x) 1 0) → length (each f l) ≡ count t l

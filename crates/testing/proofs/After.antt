@@ -13,10 +13,10 @@ use Rattle.links.specs.Plan.{Plan, lo, hi, EntryOf, Header, start}
 use Rattle.links.specs.Ground.{Ground, Tidy, Within, cutOne, taken, Fresh, Holds}
 use Rattle.links.specs.Row.{walked, others}
 use Rattle.links.proofs.Stores.{same?}
-use Rattle.links.proofs.Rings.{without→, without←, up-stays, down-stays}
+use Rattle.links.proofs.Rings.{without←, up-stays, down-stays}
 use Rattle.links.proofs.Plans.{entry-no-header}
-use Rattle.links.proofs.Rows.{walked-taken}
-use Rattle.links.proofs.Grounds.{taken-head, node-in, col-in, length-some, length-small, cut-up-in, cut-down-in, cut-growing, taken-lengths, back-up, back-down, back-heads, taken-append, taken-tidy, fresh-front, fresh-rest, fresh-append, taken-on, on-taken, within-taken}
+use Rattle.links.proofs.Rows.{walked-taken, others-taken}
+use Rattle.links.proofs.Grounds.{taken-head, node-in, col-in, length-some, length-small, cut-up-in, cut-down-in, cut-growing, taken-lengths, back-up, back-down, back-heads, taken-append, taken-tidy, fresh-within, fresh-front, fresh-rest, fresh-append, taken-on, on-taken, within-taken}
 use Rattle.testing.specs.Undo.{after}
 
 pub taken-after : (g : Ground) (xs : List ℕ) → taken g xs ≡ after g xs
@@ -27,14 +27,6 @@ taken-after g (x ∷ xs) = taken-after (cutOne g x) xs
 -- the two have the same lists
 pub held : (g : Ground) (xs : List ℕ) {heads : List ℤ} {up down : List ℕ} → Holds (after g xs) heads up down → Holds (taken g xs) heads up down
 held g xs l = record { heads-are = l .heads-are; up-are = l .up-are; down-are = l .down-are }
-
--- nodes that were in their columns one after another were there at first
-pub fresh-within : (g : Ground) (xs : List ℕ) → Fresh g xs → {y : ℕ} → In y xs → Within g y
-unfolding cutOne
-fresh-within g (x ∷ xs) f {y} (here e) = subst (λ (z : ℕ). Within g z) (sym e) (f .0)
-fresh-within g (x ∷ xs) f {y} (next m) =
-    let w = fresh-within (cutOne g x) xs (f .1) m in
-    record { entry = w .entry; on = without→ (g .on) x y (w .on) .1; header = without→ (g .on) x (g .plan .col y) (w .header) .1 }
 
 module _ (g : Ground) (xs : List ℕ) where
   pub after-more : (ys : List ℕ) → taken (after g xs) ys ≡ taken g (xs ++ ys)
@@ -65,8 +57,7 @@ module _ (g : Ground) (xs : List ℕ) where
     after-walked p e nn k = ap (λ (G : Ground). walked G p nn) (sym (taken-after g xs)) ∙ walked-taken g t xs f p e nn k
 
     pub after-others : (p : ℕ) → EntryOf (g .plan) p → others (after g xs) p ≡ others g p
-    unfolding others
-    after-others p e = after-walked p e p (omega (arith, e .till))
+    after-others p e = ap (λ (G : Ground). others G p) (sym (taken-after g xs)) ∙ others-taken g t xs f p e
 
 -- A node that left its column is among those that were taken.
 pub gone-In : (g : Ground) (xs : List ℕ) (y : ℕ) → g .on y ≡ true → taken g xs .on y ≡ false → In y xs

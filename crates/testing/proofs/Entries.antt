@@ -22,7 +22,8 @@ use Rattle.links.proofs.Gathering.{gather-one}
 use Rattle.testing.specs.Stops.{stopsAt}
 use Rattle.testing.specs.Undo.{after}
 use Rattle.testing.specs.Forward.{Alive, groundAt, Item, rivalsTo, groundTo, Inner, Stopped}
-use Rattle.testing.proofs.After.{after-tidy, after-more, after-others, after-within, after-walked, fresh-after, fresh-within, fresh-one-more, take-out, fewer-asks, unlink-asks}
+use Rattle.links.proofs.Grounds.{fresh-within}
+use Rattle.testing.proofs.After.{after-tidy, after-more, after-others, after-within, after-walked, fresh-after, fresh-one-more, take-out, fewer-asks, unlink-asks}
 use Rattle.testing.proofs.Forth as Forth
 use Rattle.testing.proofs.Stages.{ground-tidy, rivals-fresh, rival-row}
 

@@ -5,7 +5,6 @@ use mathlib.Core.Path.{_≡_, refl, _∙_, ap, sym, subst}
 use mathlib.Core.Logic.{_⊎_, inl, inr, ⊎-elim, _≢_}
 use mathlib.Core.Bool.{Bool, true, false, not, cond, false≢true}
 use mathlib.Core.List.{List, [], _∷_, _++_}
-use borrow.Author.Tests.{lt-ltb, le-ltb}
 use lib.ListN.{length}
 use lib.IntN.{ℤ, pos}
 use Rattle.links.specs.Head.{itemOf, head}
@@ -13,12 +12,12 @@ use Rattle.links.specs.Column.{at}
 use Rattle.links.specs.Plan.{lo, hi, EntryOf, Header, start}
 use Rattle.links.specs.Ground.{Ground, Tidy, Within, taken, Fresh, Holds}
 use Rattle.links.specs.Row.{walked, others}
-use Rattle.links.specs.Way.{way}
+use Rattle.links.specs.Way.{way, reach}
 use Rattle.links.specs.Taking.{gatherTo, rivalAt, rivals, testing, Tested}
 use Rattle.links.proofs.Plans.{header-before, entry-till, row-till}
 use Rattle.links.proofs.Rows.{At, walk-begins, walked-none}
 use Rattle.testing.specs.Undo.{after}
-use Rattle.testing.specs.Forward.{Test, Stage, Alive, outAt, groundAt, Outer, Item, rivalsTo, reach, Middle}
+use Rattle.testing.specs.Forward.{Test, Stage, Alive, outAt, groundAt, Outer, Item, rivalsTo, Middle}
 use Rattle.testing.proofs.After.{after-tidy, after-header, after-more}
 use Rattle.testing.proofs.Columns.{none-gathered, down-on, down-col, down-gathered}
 use Rattle.testing.proofs.Forth as Forth
@@ -123,13 +122,13 @@ module _ (h : Ground) (tints marks : List ℕ) (r s np : ℕ) (heads : List ℤ)
             let b : p ≡ at (taken (groundAt h r q) [] .down) (h .plan .col q) = a ∙ ap (at down) item-is ∙ ap (λ (v : List ℕ). at v (h .plan .col q)) (m .holds .down-are) in
             record {
               item = outer-item;
-              on = rw b (down-on (groundAt h r q) g-tidy (h .plan .col q) (h .plan .tint q) [] g-tidy still (h .plan .col q) header-on col-is);
-              col = rw b (down-col (groundAt h r q) g-tidy (h .plan .col q) (h .plan .tint q) [] g-tidy still (h .plan .col q) header-on col-is);
+              on = rw b (down-on (groundAt h r q) g-tidy (h .plan .col q) (h .plan .tint q) header [] g-tidy still (h .plan .col q) header-on col-is);
+              col = rw b (down-col (groundAt h r q) g-tidy (h .plan .col q) (h .plan .tint q) header [] g-tidy still (h .plan .col q) header-on col-is);
               alive = m .alive;
               holds = subst (λ (xs : List ℕ). Holds (taken (groundAt h r q) xs) heads up down) (sym (nothing p b)) (record { heads-are = m .holds .heads-are; up-are = m .holds .up-are; down-are = m .holds .down-are });
             }
           where
-            nothing : (p : ℕ) → p ≡ at (taken (groundAt h r q) [] .down) (h .plan .col q) → rivalsTo h r q (reach h p) ≡ []
+            nothing : (p : ℕ) → p ≡ at (taken (groundAt h r q) [] .down) (h .plan .col q) → rivalsTo h r q (reach (h .plan) p) ≡ []
             nothing p b =
-                rw b (down-gathered (groundAt h r q) g-tidy (h .plan .col q) (h .plan .tint q) [] g-tidy still (h .plan .col q) header-on col-is
+                rw b (down-gathered (groundAt h r q) g-tidy (h .plan .col q) (h .plan .tint q) header [] g-tidy still (h .plan .col q) header-on col-is
                 ∙ none-gathered (groundAt h r q) g-tidy (h .plan .col q) (h .plan .tint q) (h .plan .col q + 1) (omega (arith, header-before (h .plan) (t .planned) (h .plan .col q) header)))

@@ -3,14 +3,14 @@ use Prim.Native.Nat.{ℕ, zero, suc, _+_, _-_, _<_, _≤_}
 use native.Mathlib.Omega.{arith}
 use mathlib.Core.Path.{_≡_, refl, _∙_, ap, sym, subst}
 use mathlib.Core.Logic.{_⊎_, inl, inr, ⊎-elim, _≢_}
-use mathlib.Core.Bool.{Bool, true, false, not, _&&_, _||_, cond, false≢true}
+use mathlib.Core.Bool.{Bool, true, false, not, _&&_, _||_, and-eq-true-iff}
 use mathlib.Core.List.{List, [], _∷_, _++_, List·Memᴰ as In}
-use borrow.Author.Tests.{eq-eqb, ne-eqb, le-leb, eqb-true, eqb-false, leb-true, not-true, ltb-true}
-use lib.Dec.{T, eqb, leb, ltb, eqb→eq, leb→le, ltb→lt, lt→ltb, le→leb, T-not, not-T}
+use borrow.Author.Tests.{eqb-true, eqb-false, leb-true, not-true}
+use lib.Dec.{T, eqb, leb, eqb→eq, ltb→lt, lt→ltb, T-not, not-T}
 use lib.IntN.{ℤ, pos}
 use Rattle.rules.specs.Lists.{any, all, from}
 use Rattle.rules.specs.Blocked.{agree}
-use Rattle.theorems.proofs.Words.Tests.{T-true, T-false, T-and, and-T, T-imp, imp-T, eq→eqb}
+use Rattle.theorems.proofs.Words.Tests.{T-true, T-false, true-T, T-and, and-T, T-imp, imp-T, eq→eqb}
 use Rattle.theorems.proofs.Words.Lists.{any→, any←, any-none, none-any, all→, all←, In-from, from-In}
 use Rattle.links.specs.Head.{itemOf, head}
 use Rattle.links.specs.Column.{at, without}
@@ -25,11 +25,11 @@ use Rattle.links.proofs.Spans.{In-span, span-In}
 use Rattle.links.proofs.Rows.{In-others, others-In}
 use Rattle.links.proofs.Tallies.{tally-cut, tally-some, tally-has}
 use Rattle.links.proofs.Grounds.{on-taken, length-is, length-some}
+use Rattle.links.proofs.Descending.{column→, column←, on-entry}
 use Rattle.testing.specs.Stops.{stopsAt}
 use Rattle.testing.specs.Undo.{after}
 use Rattle.testing.specs.Forward.{Test, Clash, Out, Alive, outAt, groundAt, rivalsTo, groundTo, Outer, Inner, Stopped}
 use Rattle.testing.proofs.After.{after-tidy, after-header}
-use Rattle.testing.proofs.Columns.{and-true, on-entry}
 use Rattle.testing.proofs.Entries.{inner-entry, inner-number, inner-col, inner-within, to-tidy}
 use Rattle.testing.proofs.Hits.{Hit, hit-foreign, hit-clashes, clashes-hit, hit-rival, hit-gone, own-stays}
 
@@ -50,16 +50,6 @@ full-head g t y e f = ⊎-elim (λ h. h) (λ s. absurd (omega (arith, ltb→lt 0
 head-full : (g : Ground) → Tidy g → (y : ℕ) → EntryOf (g .plan) y → head (g .heads) y ≡ pos (g .plan .col y) → T (full (g .heads) y)
 head-full g t y e h = lt→ltb 0 (itemOf (head (g .heads) y)) (rw h (t .planned .entry y e .above))
 
--- the test of the definition for an entry in a column
-in-column→ : (h : Ground) (i y : ℕ) → T (inColumn h i y) → (h .on y ≡ true) × (h .plan .col y ≡ i) × (start (h .plan) ≤ y)
-in-column→ h i y c =
-    let a = T-and (h .on y && eqb (h .plan .col y) i) (leb (start (h .plan)) y) c in
-    let b = T-and (h .on y) (eqb (h .plan .col y) i) (a .0) in
-    (T-true (h .on y) (b .0), eqb→eq (h .plan .col y) i (b .1), leb→le (start (h .plan)) y (a .1))
-
-in-column← : (h : Ground) (i y : ℕ) → h .on y ≡ true → h .plan .col y ≡ i → start (h .plan) ≤ y → T (inColumn h i y)
-in-column← h i y o e s = rw (o, eq-eqb (h .plan .col y) i e, le-leb (start (h .plan)) y s) tt
-
 -- r holds the item of column i
 abbrev holdsAt : Ground → ℕ → ℕ → ℕ → Bool
 holdsAt h r i z = full (h .heads) z && eqb (h .plan .col z) i
@@ -67,8 +57,8 @@ holdsAt h r i z = full (h .heads) z && eqb (h .plan .col z) i
 -- what stops the walk, as facts
 stops→ : (heads : List ℤ) (marks : List ℕ) (i r np : ℕ) → stopsAt heads marks i r np ≡ true → (itemOf (head heads i) - 1 ≡ 0) × (i ≤ np) × (at marks i ≢ r)
 stops→ heads marks i r np e =
-    let a = and-true (eqb (itemOf (head heads i) - 1) 0 && leb i np) (not (eqb (at marks i) r)) e in
-    let b = and-true (eqb (itemOf (head heads i) - 1) 0) (leb i np) (a .0) in
+    let a = and-eq-true-iff (eqb (itemOf (head heads i) - 1) 0 && leb i np) (not (eqb (at marks i) r)) .0 e in
+    let b = and-eq-true-iff (eqb (itemOf (head heads i) - 1) 0) (leb i np) .0 (a .0) in
     (eqb-true (itemOf (head heads i) - 1) 0 (b .0), leb-true i np (b .1), eqb-false (at marks i) r (not-true (eqb (at marks i) r) (a .1)))
 
 module _ (h : Ground) (tints marks : List ℕ) (r s np : ℕ) (heads : List ℤ) (up down : List ℕ) (q p qq : ℕ) (m : Stopped h tints marks r s np heads up down q p qq) where
@@ -134,7 +124,7 @@ module _ (h : Ground) (tints marks : List ℕ) (r s np : ℕ) (heads : List ℤ)
 
   -- every entry of the column is of an option that clashes
   all-clash : (y : ℕ) → In y (nodesOf h) → T (not (inColumn h i y) || clashesAt h r y)
-  all-clash y n = imp-T (inColumn h i y) (clashesAt h r y) (λ c. let v = in-column→ h i y c in hit-clashes h r w y (go (v .0) (v .1) (v .2) (last .on y) refl))
+  all-clash y n = imp-T (inColumn h i y) (clashesAt h r y) (λ c. let v = column→ h i y (T-true (inColumn h i y) c) in hit-clashes h r w y (go (v .0) (v .1) (v .2) (last .on y) refl))
     where
       go : h .on y ≡ true → h .plan .col y ≡ i → start (h .plan) ≤ y → (b : Bool) → last .on y ≡ b → Hit h r y
       go o c a true e = subst (λ (j : ℕ). Hit h r j) (sym (alone y (on-entry h t y o a) e c)) own-hit
@@ -148,7 +138,7 @@ module _ (h : Ground) (tints marks : List ℕ) (r s np : ℕ) (heads : List ℤ)
   some-there : T (any (inColumn h i) (nodesOf h))
   some-there =
       any← (inColumn h i) (nodesOf h) (span-In (start (h .plan)) (h .plan .N) (entry-from (h .plan) (t .planned) qq entry) (entry-till (h .plan) (t .planned) qq entry))
-      (in-column← h i qq here-on refl (entry-from (h .plan) (t .planned) qq entry))
+      (true-T (column← h i qq here-on refl (entry-from (h .plan) (t .planned) qq entry)))
 
   shut : T (shutAt h r i)
   shut =
@@ -216,7 +206,7 @@ module _ (h : Ground) (tints marks : List ℕ) (r s np : ℕ) (heads : List ℤ)
       one = any→ (inColumn h i) (nodesOf h) (firsts .1)
 
       one-in : (h .on (one .0) ≡ true) × (h .plan .col (one .0) ≡ i) × (start (h .plan) ≤ one .0)
-      one-in = in-column→ h i (one .0) (one .2)
+      one-in = column→ h i (one .0) (T-true (inColumn h i (one .0)) (one .2))
 
       one-entry : EntryOf (h .plan) (one .0)
       one-entry = on-entry h tidy (one .0) (one-in .0) (one-in .2)
@@ -240,7 +230,7 @@ module _ (h : Ground) (tints marks : List ℕ) (r s np : ℕ) (heads : List ℤ)
       last-left (y, u, v, o, e) =
           let k = on-taken h (outAt h r r) y o in
           let n = on-entry h tidy y (k .0) u in
-          k .1 (clashing-out i head-of b free y n (k .0) e (clashes-hit h r tested y n (T-imp (inColumn h i y) (clashesAt h r y) (all→ (λ y. not (inColumn h i y) || clashesAt h r y) (nodesOf h) (parts .1) (span-In (start (h .plan)) (h .plan .N) u v)) (in-column← h i y (k .0) e u))))
+          k .1 (clashing-out i head-of b free y n (k .0) e (clashes-hit h r tested y n (T-imp (inColumn h i y) (clashesAt h r y) (all→ (λ y. not (inColumn h i y) || clashesAt h r y) (nodesOf h) (parts .1) (span-In (start (h .plan)) (h .plan .N) u v)) (true-T (column← h i y (k .0) e u)))))
 
   pub round-free : nodeBlocked h r np ≡ false
   unfolding nodeBlocked

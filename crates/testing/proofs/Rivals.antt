@@ -2,11 +2,10 @@
 use Prim.Native.Nat.{ℕ, zero, suc, _+_, _-_, _<_, _≤_}
 use native.Mathlib.Omega.{arith}
 use mathlib.Core.Path.{_≡_, refl, _∙_, ap, sym, subst}
-use mathlib.Core.Logic.{_⊎_, inl, inr, ⊎-elim, _≢_}
-use mathlib.Core.Bool.{Bool, true, false, not, cond, false≢true}
+use mathlib.Core.Logic.{_≢_}
+use mathlib.Core.Bool.{true, false, not, false≢true}
 use mathlib.Core.List.{List, [], _∷_, _++_}
-use borrow.Author.Tests.{lt-ltb, le-ltb, not-true, not-false}
-use lib.Dec.{ltb}
+use borrow.Author.Tests.{not-true, not-false}
 use lib.ListN.{length}
 use lib.IntN.{ℤ, pos}
 use Rattle.rules.specs.Blocked.{agree}
@@ -16,20 +15,17 @@ use Rattle.links.specs.Plan.{lo, hi, EntryOf, Header, start}
 use Rattle.links.specs.Ground.{Ground, Tidy, Within, taken, Fresh, Holds}
 use Rattle.links.specs.Row.{walked, others}
 use Rattle.links.specs.Taking.{gatherTo, rivalAt, rivals, testing, Tested}
-use Rattle.links.proofs.Stores.{less?}
+use Rattle.links.proofs.Stores.{not-so}
 use Rattle.links.proofs.Plans.{entry-till}
 use Rattle.links.proofs.Rows.{At, walk-begins, walked-none, full-walked}
 use Rattle.links.proofs.Gathering.{gather-none}
+use Rattle.links.proofs.Descending.{on-entry, reach, reach-past, reach-at, left, step-less}
 use Rattle.testing.specs.Undo.{after}
-use Rattle.testing.specs.Forward.{Test, Stage, Alive, outAt, groundAt, Outer, Item, rivalsTo, groundTo, reach, Middle, Inner}
+use Rattle.testing.specs.Forward.{Test, Stage, Alive, outAt, groundAt, Outer, Item, rivalsTo, groundTo, Middle, Inner}
 use Rattle.testing.proofs.After.{after-tidy, after-more}
-use Rattle.testing.proofs.Columns.{rival→, rival←, not-so, on-entry, col-before, column-same, down-on, down-col, down-gathered}
+use Rattle.testing.proofs.Columns.{rival→, rival←, column-same, down-on, down-col, down-gathered}
 use Rattle.testing.proofs.Testing.{testing-more}
 use Rattle.testing.proofs.Stages.{stage-more, item-entry, ground-tidy, rivals-fresh}
-
--- how much of a column is left below p
-abbrev pub left : ℕ → ℕ → ℕ → ℕ
-left n s p = cond (ltb p s) 0 (n - p)
 
 -- An item that was tested is behind the walk.
 module _ (h : Ground) (tints marks : List ℕ) (r s np q : ℕ) (m : Item h tints marks r s np q) where
@@ -60,7 +56,7 @@ module _ (h : Ground) (tints marks : List ℕ) (r s np : ℕ) (heads : List ℤ)
   pub leave : p < s → Outer h tints marks r s np heads up down (q + 1)
   leave l =
       next-item h tints marks r s np q (m .item) heads up down (m .alive)
-      (subst (λ (b : Bool). Holds (taken (groundAt h r q) (rivalsTo h r q (cond b (h .plan .N) p))) heads up down) (lt-ltb p (start (h .plan)) (omega (arith, m .item .test .starts))) (m .holds))
+      (subst (λ (k : ℕ). Holds (taken (groundAt h r q) (rivalsTo h r q k)) heads up down) (reach-past (h .plan) p (omega (arith, m .item .test .starts))) (m .holds))
 
   module _ (b : s ≤ p) where
     g-tidy : Tidy (groundAt h r q)
@@ -79,7 +75,7 @@ module _ (h : Ground) (tints marks : List ℕ) (r s np : ℕ) (heads : List ℤ)
     middle-fits = omega (arith, entry-till (h .plan) (m .item .test .tested .tidy .planned) p middle-entry, m .item .test .tested .tidy .planned .small)
 
     held-here : Holds (taken (groundAt h r q) (rivalsTo h r q p)) heads up down
-    held-here = subst (λ (c : Bool). Holds (taken (groundAt h r q) (rivalsTo h r q (cond c (h .plan .N) p))) heads up down) (le-ltb p (start (h .plan)) behind) (m .holds)
+    held-here = subst (λ (k : ℕ). Holds (taken (groundAt h r q) (rivalsTo h r q k)) heads up down) (reach-at (h .plan) p behind) (m .holds)
 
     module _ (x : ℕ) (e : x ≡ at tints q) where
       -- the colours as the lists have them
@@ -123,35 +119,28 @@ module _ (h : Ground) (tints marks : List ℕ) (r s np : ℕ) (heads : List ℤ)
       still : (y : ℕ) → h .plan .col y ≡ h .plan .col q → taken (groundAt h r q) (rivalsTo h r q (p + 1)) .on y ≡ groundAt h r q .on y
       still = column-same (groundAt h r q) g-tidy (h .plan .col q) (h .plan .tint q) (p + 1)
 
+      hd : Header (h .plan) (h .plan .col q)
+      hd = m .item .test .tested .tidy .planned .entry q (item-entry h tints marks r s np q (m .item))
+
       pub down-in : p < length down′
       down-in = rw (l .down-are) (omega (arith, entry-till (h .plan) (m .item .test .tested .tidy .planned) p middle-entry, p-tidy .ring .downs))
 
       pub step-down : Alive h marks r np heads′ → Middle h tints marks r s np heads′ up′ down′ q (at down′ p)
       step-down a = record {
         item = m .item;
-        on = rw (l .down-are) (down-on (groundAt h r q) g-tidy (h .plan .col q) (h .plan .tint q) (rivalsTo h r q (p + 1)) p-tidy still p (m .on) (m .col));
-        col = rw (l .down-are) (down-col (groundAt h r q) g-tidy (h .plan .col q) (h .plan .tint q) (rivalsTo h r q (p + 1)) p-tidy still p (m .on) (m .col));
+        on = rw (l .down-are) (down-on (groundAt h r q) g-tidy (h .plan .col q) (h .plan .tint q) hd (rivalsTo h r q (p + 1)) p-tidy still p (m .on) (m .col));
+        col = rw (l .down-are) (down-col (groundAt h r q) g-tidy (h .plan .col q) (h .plan .tint q) hd (rivalsTo h r q (p + 1)) p-tidy still p (m .on) (m .col));
         alive = a;
         holds = subst (λ (xs : List ℕ). Holds (taken (groundAt h r q) xs) heads′ up′ down′) (sym gathered) l;
       }
         where
-          gathered : rivalsTo h r q (reach h (at down′ p)) ≡ rivalsTo h r q (p + 1)
-          gathered = rw (l .down-are) (down-gathered (groundAt h r q) g-tidy (h .plan .col q) (h .plan .tint q) (rivalsTo h r q (p + 1)) p-tidy still p (m .on) (m .col))
+          gathered : rivalsTo h r q (reach (h .plan) (at down′ p)) ≡ rivalsTo h r q (p + 1)
+          gathered = rw (l .down-are) (down-gathered (groundAt h r q) g-tidy (h .plan .col q) (h .plan .tint q) hd (rivalsTo h r q (p + 1)) p-tidy still p (m .on) (m .col))
 
-      in-heads : p < length heads
-      in-heads =
-          let w = after-tidy (groundAt h r q) (rivalsTo h r q (reach h p)) g-tidy (rivals-fresh h tints marks r s np q (m .item) (reach h p)) in
-          rw (m .holds .heads-are) (omega (arith, entry-till (h .plan) (m .item .test .tested .tidy .planned) p middle-entry, w .heads-in))
-
-      -- the link leads further down, or to the header
-      further : (p < at down′ p) ⊎ (at down′ p < s)
-      further =
-          rw (l .down-are)
-          (⊎-elim (λ c. inl c) (λ c. inr (omega (arith, c, m .item .test .starts, col-before (groundAt h r q) g-tidy p (m .on))))
-          (p-tidy .ring .tied p (still p (m .col) ∙ m .on) .rises))
+      room : h .plan .N ≤ length heads
+      room = rw (held-here .heads-are) (after-tidy (groundAt h r q) (rivalsTo h r q p) g-tidy (rivals-fresh h tints marks r s np q (m .item) p) .heads-in)
 
       pub step-left : (n : ℕ) → length heads ≡ n → left n s (at down′ p) < left n s p
       step-left n c =
-          rw (le-ltb p s b)
-          (⊎-elim (λ (k : at down′ p < s). rw (lt-ltb (at down′ p) s k) (omega (arith, in-heads)))
-          (λ (k : s ≤ at down′ p). rw (le-ltb (at down′ p) s k) (⊎-elim (λ (j : p < at down′ p). omega (arith, in-heads)) (λ (j : at down′ p < s). omega arith) further)) (less? (at down′ p) s))
+          rw (l .down-are, m .item .test .starts)
+          (step-less (after (groundAt h r q) (rivalsTo h r q (p + 1))) p-tidy (h .plan .col q) hd p (record { on = still p (m .col) ∙ m .on; col = m .col }) n (omega (arith, c, room)) behind)

@@ -15,13 +15,15 @@ use Rattle.links.specs.Ground.{Ground, Tidy, taken, Fresh, Holds}
 use Rattle.links.specs.Row.{walked, others}
 use Rattle.links.specs.Shown.{Tinted}
 use Rattle.links.specs.Taking.{gatherTo, rivalAt}
+use Rattle.links.proofs.Stores.{not-so}
 use Rattle.links.proofs.Plans.{header-before, entry-from, entry-till}
 use Rattle.links.proofs.Grounds.{fresh-front}
 use Rattle.links.proofs.Rows.{back-begins, back-begun}
 use Rattle.links.proofs.Gathering.{gather-one, gather-none}
+use Rattle.links.proofs.Descending.{on-entry}
 use Rattle.testing.specs.Undo.{after, Half, rivalsUpTo, Below}
 use Rattle.testing.proofs.After.{after-tidy, after-more, after-others, fresh-after}
-use Rattle.testing.proofs.Columns.{rival→, rival←, on-entry, column-same, none-gathered, up-col, up-on, up-falls, up-gathered, last-gathered, not-so}
+use Rattle.testing.proofs.Columns.{rival→, rival←, column-same, none-gathered, up-col, up-on, up-falls, up-gathered, last-gathered}
 
 -- At an entry p of a column of g, of which the rivals above p are out: after p itself is put back, the step up.
 module _ (g : Ground) (tints : List ℕ) (p x s : ℕ) (heads : List ℤ) (up down : List ℕ) (m : Below g tints p x s heads up down) where
@@ -102,20 +104,20 @@ module _ (g : Ground) (tints : List ℕ) (p x s : ℕ) (t : Tidy g) (o : g .on p
   link-in = rw (l .up-are) (omega (arith, entry-till (g .plan) (t .planned) p e, now-tidy .ring .ups))
 
   pub link-falls : at up p < p
-  link-falls = rw (l .up-are) (up-falls g t (g .plan .col p) x above now-tidy (column-same g t (g .plan .col p) x p) p o refl e)
+  link-falls = rw (l .up-are) (up-falls g t (g .plan .col p) x (t .planned .entry p e) above now-tidy (column-same g t (g .plan .col p) x p) p o refl e)
 
   same-list : above ≡ rivalsUpTo g x (at up p)
   same-list =
-      up-gathered g t (g .plan .col p) x above now-tidy (column-same g t (g .plan .col p) x p) p o refl e
+      up-gathered g t (g .plan .col p) x (t .planned .entry p e) above now-tidy (column-same g t (g .plan .col p) x p) p o refl e
       ∙ ap (λ (u : List ℕ). gatherTo (rivalAt g (g .plan .col p) x) g (at u p + 1)) (sym (l .up-are))
-      ∙ ap (λ (i : ℕ). gatherTo (rivalAt g i x) g (at up p + 1)) (sym (ap (λ (u : List ℕ). g .plan .col (at u p)) (l .up-are) ∙ up-col g t (g .plan .col p) x above now-tidy (column-same g t (g .plan .col p) x p) p o refl))
+      ∙ ap (λ (i : ℕ). gatherTo (rivalAt g i x) g (at up p + 1)) (sym (ap (λ (u : List ℕ). g .plan .col (at u p)) (l .up-are) ∙ up-col g t (g .plan .col p) x (t .planned .entry p e) above now-tidy (column-same g t (g .plan .col p) x p) p o refl))
 
   pub step-up : Tinted (g .plan) tints → s ≡ start (g .plan) → Below g tints (at up p) x s heads up down
   step-up w q = record {
     tidy = t;
     tinted = w;
     starts = q;
-    on = rw (l .up-are) (up-on g t (g .plan .col p) x above now-tidy (column-same g t (g .plan .col p) x p) p o refl);
+    on = rw (l .up-are) (up-on g t (g .plan .col p) x (t .planned .entry p e) above now-tidy (column-same g t (g .plan .col p) x p) p o refl);
     fresh = subst (λ (xs : List ℕ). Fresh g xs) same-list f;
     holds = subst (λ (xs : List ℕ). Holds (taken g xs) heads up down) same-list l;
   }
@@ -136,17 +138,17 @@ module _ (g : Ground) (tints : List ℕ) (i x s : ℕ) (t : Tidy g) (head-of : H
   still = column-same g t i x (g .plan .N)
 
   lowest-on : g .on (at up i) ≡ true
-  lowest-on = rw (l .up-are) (up-on g t i x all all-tidy still i o col-is)
+  lowest-on = rw (l .up-are) (up-on g t i x head-of all all-tidy still i o col-is)
 
   lowest-col : g .plan .col (at up i) ≡ i
-  lowest-col = rw (l .up-are) (up-col g t i x all all-tidy still i o col-is)
+  lowest-col = rw (l .up-are) (up-col g t i x head-of all all-tidy still i o col-is)
 
   -- it is the last: below it is the header again
   leads-back : at (taken g all .down) (at up i) ≡ i
   leads-back = rw (l .up-are) (all-tidy .ring .tied i (still i col-is ∙ o) .above-down)
 
   whole-column : all ≡ rivalsUpTo g x (at up i)
-  whole-column = last-gathered g t i x all all-tidy still (at up i) lowest-on lowest-col leads-back ∙ ap (λ (j : ℕ). gatherTo (rivalAt g j x) g (at up i + 1)) (sym lowest-col)
+  whole-column = last-gathered g t i x head-of all all-tidy still (at up i) lowest-on lowest-col leads-back ∙ ap (λ (j : ℕ). gatherTo (rivalAt g j x) g (at up i + 1)) (sym lowest-col)
 
   pub header-in : i < length up
   header-in = rw (l .up-are) (omega (arith, header-before (g .plan) (t .planned) i head-of, t .planned .room, all-tidy .ring .ups))

@@ -2,9 +2,9 @@
 use Prim.Native.Nat.{ℕ, _+_, _<_, _≤_}
 use mathlib.Core.Path.{_≡_}
 use mathlib.Core.Logic.{_⊎_, _≢_}
-use mathlib.Core.Bool.{Bool, true, false, not, cond}
+use mathlib.Core.Bool.{Bool, true, false, not}
 use mathlib.Core.List.{List, List·Memᴰ as In}
-use lib.Dec.{T, ltb}
+use lib.Dec.{T}
 use lib.IntN.{ℤ, pos}
 use Rattle.rules.specs.Blocked.{agree}
 use Rattle.links.specs.Head.{itemOf, head}
@@ -12,6 +12,7 @@ use Rattle.links.specs.Column.{at}
 use Rattle.links.specs.Plan.{lo, hi, EntryOf, Header, start}
 use Rattle.links.specs.Ground.{Ground, Tidy, taken, Fresh, Holds}
 use Rattle.links.specs.Row.{walked, others}
+use Rattle.links.specs.Way.{reach}
 use Rattle.links.specs.Shown.{Tinted}
 use Rattle.links.specs.Taking.{lengthOf, gatherTo, rivalAt, testing, Tested, Marked}
 use Rattle.testing.specs.Stops.{stopsAt}
@@ -84,17 +85,13 @@ rivalsTo h r q k = gatherTo (rivalAt (groundAt h r q) (h .plan .col q) (h .plan 
 abbrev pub groundTo : Ground → ℕ → ℕ → ℕ → Ground
 groundTo h r q k = after (groundAt h r q) (rivalsTo h r q k)
 
--- where p is the header again, the column is done
-abbrev pub reach : Ground → ℕ → ℕ
-reach h p = cond (ltb p (start (h .plan))) (h .plan .N) p
-
 -- At node p of q's column.
 pub record Middle (h : Ground) (tints marks : List ℕ) (r s np : ℕ) (heads : List ℤ) (up down : List ℕ) (q p : ℕ) : Type 0 where
   pub item : Item h tints marks r s np q
   pub on : groundAt h r q .on p ≡ true
   pub col : h .plan .col p ≡ h .plan .col q
   pub alive : Alive h marks r np heads
-  pub holds : Holds (taken (groundAt h r q) (rivalsTo h r q (reach h p))) heads up down
+  pub holds : Holds (taken (groundAt h r q) (rivalsTo h r q (reach (h .plan) p))) heads up down
 
 -- At node qq of the rival p.
 pub record Inner (h : Ground) (tints marks : List ℕ) (r s np : ℕ) (heads : List ℤ) (up down : List ℕ) (q p qq : ℕ) : Type 0 where

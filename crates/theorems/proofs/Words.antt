@@ -8,3 +8,4 @@ pub mod Order
 pub mod Distinct
 pub mod Rising
 pub mod Places
+pub mod Written

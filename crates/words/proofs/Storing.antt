@@ -6,9 +6,9 @@ use mathlib.Core.List.{List, [], _∷_, _++_}
 use lib.ListN.{length, getD, take, set}
 use lib.Seq.{sets, take-suc, length-take-le}
 use Rattle.rules.specs.Lists.{written}
+use Rattle.theorems.proofs.Words.Written.{written-behind}
 use Rattle.words.specs.Bytes.{numberOf, numbersOf, bytesOf}
 use Rattle.words.proofs.Counting.{length-bytes}
-use Rattle.words.proofs.Behind.{written-behind}
 use Rattle.words.proofs.Numbers.{number-back, bytes-append}
 
 -- four stores, by the code's places

@@ -93,6 +93,15 @@ module _ {A : Type 0} where
   keep-cong f g [] h = refl
   keep-cong f g (y ∷ l) h = rw (h y (here refl), keep-cong f g l (λ x m. h x (next m)))
 
+  -- keeping in two parts
+  pub keep-append : (f : A → Bool) (l m : List A) → keep f (l ++ m) ≡ keep f l ++ keep f m
+  keep-append f [] m = refl
+  keep-append f (x ∷ l) m = go (f x) (keep-append f l m)
+    where
+      go : (b : Bool) → keep f (l ++ m) ≡ keep f l ++ keep f m → cond b (x ∷ keep f (l ++ m)) (keep f (l ++ m)) ≡ cond b (x ∷ keep f l) (keep f l) ++ keep f m
+      go true e = ap (λ (z : List A). x ∷ z) e
+      go false e = e
+
   -- keeping twice, where the second test implies the first
   pub keep-keep : (f g : A → Bool) (l : List A) → ((x : A) → In x l → T (f x) → T (g x)) → keep f (keep g l) ≡ keep f l
   keep-keep f g [] h = refl
@@ -202,6 +211,14 @@ In-upTo n m = let r = In-from 0 n m in omega arith
 
 pub upTo-In : (n : ℕ) {q : ℕ} → q < n → In q (upTo n)
 upTo-In n h = from-In 0 n (omega arith) (omega arith)
+
+-- in two parts
+pub from-split : (n i m : ℕ) → from i (n + m) ≡ from i n ++ from (i + n) m
+from-split zero i m = let e : 0 + m ≡ m = omega arith in let f : i + 0 ≡ i = omega arith in rw (e, f)
+from-split (suc n) i m =
+    let e : suc n + m ≡ suc (n + m) = omega arith in
+    let f : i + suc n ≡ suc i + n = omega arith in
+    rw (e, f) (ap (λ (l : List ℕ). i ∷ l) (from-split n (suc i) m))
 
 pub length-from : (i n : ℕ) → length (from i n) ≡ n
 length-from i zero = refl

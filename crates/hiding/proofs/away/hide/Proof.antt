@@ -6,8 +6,8 @@ use mathlib.Core.Logic.{⊎-elim}
 use lib.ListN.{length}
 use Rattle.links.specs.Ground.{Ground, taken, Holds}
 use Rattle.links.specs.Taking.{gatherTo, hidden}
+use Rattle.links.proofs.Descending.{left}
 use Rattle.hiding.specs.Hiding.{Column, Taken}
-use Rattle.hiding.proofs.Steps.{left}
 use Rattle.hiding.proofs.Columns.{stand-small, tint-in}
 use Rattle.hiding.proofs.Descent.{Descent, room, begin-in, begin, finish, next-in, next, next-less, spare, around, around-holds, hide}
 use Rattle.hiding.proofs.away.hide.Statement.{statement}

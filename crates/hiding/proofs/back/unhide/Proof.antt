@@ -6,10 +6,10 @@ use mathlib.Core.Logic.{⊎-elim}
 use lib.ListN.{length}
 use Rattle.links.specs.Ground.{Ground, taken, Holds}
 use Rattle.links.specs.Taking.{hidden, hides}
+use Rattle.links.proofs.Descending.{left}
 use Rattle.hiding.specs.Hiding.{Column}
 use Rattle.hiding.specs.Away.{Away}
 use Rattle.hiding.proofs.Order.{gatherLater}
-use Rattle.hiding.proofs.Steps.{left}
 use Rattle.hiding.proofs.Columns.{stand-small, tint-in}
 use Rattle.hiding.proofs.DescentBack.{DescentBack, room, begin-in, begin, finish, next-in, next, next-less, spare, behind, behind-away}
 use Rattle.hiding.proofs.back.unhide.Statement.{statement}

@@ -4,9 +4,10 @@ use mathlib.Core.Path.{_≡_, refl, _∙_}
 use native.Mathlib.Omega.{arith}
 use lib.ListN.{length}
 use Rattle.links.specs.Ground.{Ground}
+use Rattle.links.proofs.Descending.{left}
 use Rattle.removing.specs.Removing.{Removing}
 use Rattle.removing.proofs.Going.{midst}
-use Rattle.removing.proofs.Removes.{Place, below, remove-in, remove-begin, remove-node, remove-deletes, remove-stop, remove-next, remove-way, remove-asks, remove-end}
+use Rattle.removing.proofs.Removes.{Place, remove-in, remove-begin, remove-node, remove-deletes, remove-stop, remove-next, remove-way, remove-asks, remove-end}
 use Rattle.removing.proofs.remove.remove_item.Statement.{statement}
 use Rattle.removing.proofs.remove.remove_item.Tie as tie
 
@@ -14,7 +15,7 @@ abbrev Inv-loop : tie.InvT-loop
 Inv-loop heads₀ up₀ down₀ c p start np r₀ heads up down r = (length heads ≡ length heads₀) × (length up ≡ length up₀) × (length down ≡ length down₀) × ((g : Ground) → Removing g c p start heads₀ up₀ down₀ → Place g c p np heads up down r)
 
 abbrev μ-loop : tie.MeasureT-loop
-μ-loop heads₀ up₀ down₀ c p start np r₀ heads up down r = below (length heads₀) start r
+μ-loop heads₀ up₀ down₀ c p start np r₀ heads up down r = left (length heads₀) start r
 
 link-requires : tie.Need-link-requires Inv-loop μ-loop
 link-requires c κs = let s = c .before .before .before in let a = s .args in remove-in (s .pre .0) (a .c) (a .p) (a .start) (a .heads .now) (a .up .now) (a .down .now) (s .pre .1)

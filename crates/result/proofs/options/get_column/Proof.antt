@@ -7,10 +7,11 @@ use lib.ListN.{length}
 use Rattle.rules.specs.Result.{Numbered}
 use Rattle.links.specs.Ground.{Ground}
 use Rattle.links.specs.Lead.{Leads}
+use Rattle.links.proofs.Descending.{reach, left}
 use Rattle.result.specs.Left.{columnTo}
 use Rattle.result.specs.Writing.{Out, out}
 use Rattle.result.specs.Reading.{ColumnAt}
-use Rattle.result.proofs.OneColumn.{reach, ahead, Place, column-small, column-in, column-begins, place-in, column-done, place-led, place-less, lead-in, place-over, place-option, place-one}
+use Rattle.result.proofs.OneColumn.{Place, column-small, column-in, column-begins, place-in, column-done, place-led, place-less, lead-in, place-over, place-option, place-one}
 use Rattle.result.proofs.options.get_column.Statement.{statement}
 use Rattle.result.proofs.options.get_column.Tie as tie
 
@@ -20,7 +21,7 @@ Inv-loop heads down tints n c ends₀ numbers₀ items₀ colours₀ next₀ r�
     → Place g old (out ends numbers items colours) xs c (next .option) (next .entry) r)
 
 abbrev μ-loop : tie.MeasureT-loop
-μ-loop heads down tints n c ends₀ numbers₀ items₀ colours₀ next₀ r₀ ends numbers items colours next r = ahead n (length heads) r
+μ-loop heads down tints n c ends₀ numbers₀ items₀ colours₀ next₀ r₀ ends numbers items colours next r = left (length heads) (n + 2) r
 
 -- r is an entry
 far : (c : tie.In-loop Inv-loop μ-loop) → c .before .before .before .before .before .before .before .before .before .args .n + 2 ≤ c .before .loop .r

@@ -14,10 +14,11 @@ use Rattle.links.specs.Column as Column
 use Rattle.links.specs.Ground.{Ground, taken, Holds}
 use Rattle.links.specs.Way.{way}
 use Rattle.links.proofs.Plans.{entry-till}
+use Rattle.links.proofs.Descending.{left}
 use Rattle.testing.specs.Stops.{stopsAt}
 use Rattle.testing.specs.Forward.{Test, Alive, groundAt, Outer, rivalsTo, Middle, Inner}
 use Rattle.testing.proofs.Items.{outer-begins, outer-in, outer-fits, outer-over, outer-over-way, outer-way, outer-tint, outer-link, enter}
-use Rattle.testing.proofs.Rivals.{left, leave, middle-tint, middle-fits, round, spare, down-in, step-down, step-left}
+use Rattle.testing.proofs.Rivals.{leave, middle-tint, middle-fits, round, spare, down-in, step-down, step-left}
 use Rattle.testing.proofs.Entries.{inner-in, inner-fits, inner-done, inner-over, inner-over-way, inner-way, inner-fewer, inner-mark, inner-unlink, inner-take, inner-stops}
 use borrow.Author.Needs.{needs}
 use Rattle.testing.proofs.hide_entries.hide_entries.Statement.{statement}
