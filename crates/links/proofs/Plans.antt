@@ -40,13 +40,7 @@ module _ (P : Plan) (W : Planned P) where
         till = subst (λ (j : ℕ). y < P .past j) (sym e) t;
       }
 
-  -- and has the same first node and boundary
-  pub row-lo : (y z : ℕ) → EntryOf P y → lo P y ≤ z → z < hi P y → lo P z ≡ lo P y
-  row-lo y z e f t = ap (P .first) (W .numbered (P .number y) z (e .option) f t)
-
-  pub row-hi : (y z : ℕ) → EntryOf P y → lo P y ≤ z → z < hi P y → hi P z ≡ hi P y
-  row-hi y z e f t = ap (P .past) (W .numbered (P .number y) z (e .option) f t)
-
+  -- and so is every node of an entry's row
   pub row-mate : (y z : ℕ) → EntryOf P y → lo P y ≤ z → z < hi P y → EntryOf P z
   row-mate y z e f t = row-entry (P .number y) z (e .option) f t
 
