@@ -3,6 +3,8 @@
 // before; nothing is said of what lies behind the part used.
 //
 // None of these functions is a public call: each has a `requires` that the caller has to have checked.
+#![tactic(auto)]
+
 ghost use Rattle.std.specs.Prelude.{◌≡◌, ℕ, ◌+◌, ◌-◌, ◌<◌, ◌≤◌, length, pos, negsuc, slice_set};
 ghost use Rattle.links.specs.Head.{item_of, head, Growing};
 ghost use Rattle.links.specs.Column.{at};

@@ -1,5 +1,7 @@
 // The call over lists: any numbers and any lists, of any lengths. What a check refuses is refused by its number, with nothing written; all else goes
 // to the core. It has no `requires`, and its `ensures` says the one possible outcome.
+#![tactic(auto)]
+
 ghost use Rattle.std.specs.Prelude.{◌≡◌};
 ghost use Rattle.rules.specs.Outcome.{outcome_of};
 ghost use Rattle.rules.specs.Paper.{paper};

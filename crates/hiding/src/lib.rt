@@ -2,5 +2,7 @@
 // in the order in which they went (`unhide`). The walk round one option is a function of its own, each way.
 //
 // Each function has a `requires`, and none is a public call.
+#![tactic(auto)]
+
 pub mod away;
 pub mod back;

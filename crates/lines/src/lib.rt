@@ -1,4 +1,6 @@
 // What the programs that run the calls share: lines of text, the numbers in them, fronts of lists, and what is written to standard output.
+#![tactic(auto)]
+
 pub mod numbers;
 pub mod parts;
 pub mod say;

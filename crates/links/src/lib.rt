@@ -4,6 +4,8 @@
 // the boundary after option k; a header's head is the length of its column.
 //
 // The functions of this crate are the leaves that the walks above it call: each has a `requires`, and none is a public call.
+#![tactic(auto)]
+
 pub mod column;
 pub mod head;
 pub mod lead;

@@ -4,5 +4,7 @@
 // and 0 where there is none.
 //
 // The functions of this crate are steps of the engine: each has a `requires`, and none is a public call.
+#![tactic(auto)]
+
 pub mod delete;
 pub mod remove;

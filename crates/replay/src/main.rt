@@ -2,6 +2,8 @@
 // answer that is stored beside it. Writes how many there are, how many agree, and how many have each outcome; and the first line that differs.
 //
 // The input is oracle/replay.txt, and oracle/REPLAY.md says what a line holds and how it was made: most answers were given by the unchanged Rust.
+#![tactic(auto)]
+
 mod agree;
 mod run;
 mod stored;

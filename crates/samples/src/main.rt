@@ -11,6 +11,8 @@
 // first. `ok` says what was then compared to the end of each: after 0 or 1 every working list is zero, and after a refusal it holds the pattern; a
 // list of the result, or of a renumbering, holds the pattern behind its front, and all over where nothing may be written. A list that isn't so is
 // named as WRONG.
+#![tactic(auto)]
+
 mod case;
 mod compare;
 mod renumber;

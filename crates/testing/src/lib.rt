@@ -3,6 +3,8 @@
 // and breaks off before a primary item that the option does not hold would be emptied; the undoing puts all back in reverse order.
 //
 // Each function has a `requires` on what the lists hold, and none is a public call.
+#![tactic(auto)]
+
 pub mod backup;
 pub mod blocked;
 pub mod hide_entries;
