@@ -26,6 +26,7 @@ use Rattle.theorems.proofs.Answers.Bounds.{Within, bounds}
 
 -- ends that rise within E are within E
 ends-within : {E a : ℕ} {ends : List ℕ} → Ascend E a ends → {x : ℕ} → In x ends → x ≤ E
+ends-within {E = E} (Rattle.theorems.proofs.Checks.Cutting.ended {a = a}) x8 = elim x8 [ ]
 ends-within (rise h k r) (here e) = omega arith
 ends-within (rise h k r) (next m) = ends-within r m
 

@@ -109,6 +109,7 @@ module _ (np n colour : ℕ) where
       own = distinct→ e.item (items_of o) P.once
 
   pub options→ : (i : ℕ) (os : List (List Entry)) → check_options np n colour i os ≡ none → (o : List Entry) → In o os → Passes np n colour [] o
+  options→ i [] h o x'' = elim x'' [ ]
   options→ i (x ∷ os) h o (here k) = rw k (option→ i [] x (or_else-none (check_option np n colour i [] x) (check_options np n colour (i + length x) os) h).0)
   options→ i (x ∷ os) h o (next m) = options→ (i + length x) os (or_else-none (check_option np n colour i [] x) (check_options np n colour (i + length x) os) h).1 o m
 

@@ -17,6 +17,7 @@ nonempty→ [] t = absurd t
 nonempty→ (e ∷ o) t = (e, here refl)
 
 pub nonempty← : (o : List Entry) {e : Entry} → In e o → T (nonempty o)
+nonempty← [] {e = e} m = elim m [ ]
 nonempty← (d ∷ o) m = tt
 
 pub begins-nonempty : (f : Entry → Bool) (o : List Entry) → T (begins f o) → T (nonempty o)

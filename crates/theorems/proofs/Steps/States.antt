@@ -129,6 +129,7 @@ before→ c (d ∷ o) {e} m = go (T-dec (is c d)) (λ u. before→ c o u)
     go (inr u) r = there (subst (λ (b : Bool). In e (cond b [] (d ∷ entries_before c o))) (T_false (is c d) u) m) u r
 
 pub after-or-before : (c : ℕ) (o : List Entry) {e : Entry} → In e o → e.item ≢ c → In e (entries_after c o ++ entries_before c o)
+after-or-before c [] {e = e} x'' ne = elim x'' [ ]
 after-or-before c (d ∷ o) {e} (here h) ne =
     let u : is c d ≡ false = T_false (is c d) (ne→neqb d.item c (λ q. ne (ap (λ (z : Entry). z.item) h ∙ q))) in
     subst (λ (b : Bool). In e (cond b o (entries_after c o) ++ cond b [] (d ∷ entries_before c o))) (sym u) (In-append-r (entries_after c o) (here h))
@@ -186,6 +187,7 @@ emptied→ which s (x ∷ qs) {q} e = go (emptied_now which s qs x) refl e (λ u
     go false t e r = let w = r e in (next w.0, w.1, w.2)
 
 pub none-emptied : (which : ℕ → Bool) (s : State) (qs : List ℕ) → first_emptied which s qs ≡ none → {q : ℕ} → In q qs → T (which q) → T (in_live q s)
+none-emptied which s [] e {q = q} m w = elim m [ ]
 none-emptied which s (x ∷ qs) e {q} m w = go (emptied_now which s qs x) refl e (λ u n. none-emptied which s qs u n w)
   where
     alive : T (not (emptied_now which s qs q)) → T (not (mem q qs)) → T (in_live q s)

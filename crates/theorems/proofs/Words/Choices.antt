@@ -45,6 +45,7 @@ module _ {A : Type 0} where
       go false h e r = (next (r e).0, (r e).1)
 
   pub first_that-none : (f : A → Bool) (l : List A) → first_that f l ≡ none → {x : A} → In x l → T (not (f x))
+  first_that-none f [] e {x = x} m = elim m [ ]
   first_that-none f (y ∷ l) e {x} m = go (f y) refl e m (λ u n. first_that-none f l u n)
     where
       go : (b : Bool) → f y ≡ b → cond b (some y) (first_that f l) ≡ none → In x (y ∷ l) → (first_that f l ≡ none → In x l → T (not (f x))) → T (not (f x))
@@ -69,6 +70,7 @@ module _ {A : Type 0} where
       go (some z) h e r = let w = r (h ∙ e) in (next w.0, w.1)
 
   pub last_that-none : (f : A → Bool) (l : List A) → last_that f l ≡ none → {x : A} → In x l → T (not (f x))
+  last_that-none f [] e x4 = elim x4 [ ]
   last_that-none f (y ∷ l) e (here q) = rw q (own (f y) refl (or_else-none (last_that f l) (cond (f y) (some y) none) e).1)
     where
       own : (b : Bool) → f y ≡ b → cond b (some y) none ≡ none → T (not (f y))

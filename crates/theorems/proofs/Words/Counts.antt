@@ -32,6 +32,7 @@ module _ {A : Type 0} where
       omega arith
 
   pub count-lt : (f g : A → Bool) (l : List A) → ((x : A) → In x l → T (f x) → T (g x)) → {y : A} → In y l → T (g y) → T (not (f y)) → count f l < count g l
+  count-lt f g [] h {y = y} x4 t u = elim x4 [ ]
   count-lt f g (z ∷ l) h {y} (here e) t u =
       let le = count-le f g l (λ x m. h x (next m)) in
       rw (T_true (g z) (rw e at t), T_false (f z) (rw e at u)) (omega arith)

@@ -34,6 +34,7 @@ pub greater-right : (a b : ℕ) → b ≤ greater a b
 greater-right a b = (greater-both a b).1
 
 pub greatest-above : (l : List ℕ) {x : ℕ} → In x l → x ≤ greatest l
+greatest-above [] {x = x} x3 = elim x3 [ ]
 greatest-above (a ∷ l) {x} (here e) = let h = greater-left a (greatest l) in omega arith
 greatest-above (a ∷ l) {x} (next m) = let h = greater-right a (greatest l) in let k = greatest-above l m in omega arith
 

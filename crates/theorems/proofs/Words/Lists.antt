@@ -28,6 +28,7 @@ module _ {A : Type 0} where
       go (inr u) r = ((r u).0, next (r u).1, (r u).2)
 
   pub any← : (f : A → Bool) (l : List A) {x : A} → In x l → T (f x) → T (any f l)
+  any← f [] x4 t = elim x4 [ ]
   any← f (y ∷ l) (here e) t = or_left (f y) (any f l) (rw e at t)
   any← f (y ∷ l) (next m) t = or_right (f y) (any f l) (any← f l m t)
 
@@ -38,6 +39,7 @@ module _ {A : Type 0} where
   none_any f l t {x} m = not_T (f x) (λ u. T_not (any f l) t (any← f l m u))
 
   pub all→ : (f : A → Bool) (l : List A) → T (all f l) → {x : A} → In x l → T (f x)
+  all→ f [] t x4 = elim x4 [ ]
   all→ f (y ∷ l) t (here e) = rw e (T_and (f y) (all f l) t).0
   all→ f (y ∷ l) t (next m) = all→ f l (T_and (f y) (all f l) t).1 m
 
@@ -81,6 +83,7 @@ module _ {A : Type 0} where
       go false e h r = (next (r h).0, (r h).1)
 
   pub keep← : (f : A → Bool) (l : List A) {x : A} → In x l → T (f x) → In x (keep f l)
+  keep← f [] {x = x} x4 t = elim x4 [ ]
   keep← f (y ∷ l) (here e) t = rw (T_true (f y) (rw e at t)) (here e)
   keep← f (y ∷ l) {x} (next m) t = go (f y) (keep← f l m t)
     where
@@ -127,6 +130,7 @@ module _ {A : Type 0} where
   get_or-In (x ∷ l) (suc k) d h = next (get_or-In l k d (omega arith))
 
   pub In-get_or : (l : List A) (d : A) {x : A} → In x l → (k : ℕ) × (k < length l) × (get_or l k d ≡ x)
+  In-get_or [] d x3 = elim x3 [ ]
   In-get_or (y ∷ l) d (here e) = (0, omega arith, sym e)
   In-get_or (y ∷ l) d (next m) = let r = In-get_or l d m in let h = r.1 in (suc r.0, omega arith, r.2)
 
@@ -143,6 +147,7 @@ module _ {A B : Type 0} where
   map-has f l P h y m = let w = In-map f l m in subst P (sym w.2) (h w.0 w.1)
 
   pub each-In : (f : A → List B) (l : List A) {x : A} {y : B} → In x l → In y (f x) → In y (each f l)
+  each-In f [] {y = y} x4 m = elim x4 [ ]
   each-In f (z ∷ l) (here e) m = In-append-l (each f l) (rw e at m)
   each-In f (z ∷ l) (next n) m = In-append-r (f z) (each-In f l n m)
 
@@ -196,6 +201,7 @@ In-reverse (y ∷ l) {x} m = go (In-append (reverse l) (subst (λ (z : List _). 
     go (inr (next h)) r = absurd (not-nil h)
 
 pub reverse-In : {A : Type 0} (l : List A) {x : A} → In x l → In x (reverse l)
+reverse-In {A = A} [] {x = x} x3 = elim x3 [ ]
 reverse-In (y ∷ l) {x} (here e) = subst (λ (z : List _). In x z) (sym (reverse-cons y l)) (In-append-r (reverse l) (here e))
 reverse-In (y ∷ l) {x} (next m) = subst (λ (z : List _). In x z) (sym (reverse-cons y l)) (In-append-l (y ∷ []) (reverse-In l m))
 
