@@ -177,6 +177,7 @@ fresh-append g (x ∷ xs) ys f h = (f.0, fresh-append (cut_one g x) xs ys f.1 h)
 -- nodes that were in their columns one after another were there at first
 pub fresh-within : (g : Ground) (xs : List ℕ) → Fresh g xs → {y : ℕ} → In y xs → Within g y
 unfolding cut_one
+fresh-within g [] f {y = y} x'' = elim x'' [ ]
 fresh-within g (x ∷ xs) f {y} (here e) = subst (λ (z : ℕ). Within g z) (sym e) f.0
 fresh-within g (x ∷ xs) f {y} (next m) =
     let w = fresh-within (cut_one g x) xs f.1 m in
@@ -198,6 +199,7 @@ off-taken g (x ∷ xs) y o = off-taken (cut_one g x) xs y (without-off g.on x y 
 
 pub taken-off : (g : Ground) (xs : List ℕ) {y : ℕ} → In y xs → (taken g xs).on y ≡ false
 unfolding cut_one
+taken-off g [] {y = y} x' = elim x' [ ]
 taken-off g (x ∷ xs) {y} (here e) = off-taken (cut_one g x) xs y (rw (eq-eqb y x e))
 taken-off g (x ∷ xs) {y} (next m) = taken-off (cut_one g x) xs m
 
