@@ -1,10 +1,9 @@
 -- Lengths of columns, when nodes are taken out: the order does not matter, so that the node taken first may come back first. Assumes nothing.
-use Prim.Native.Nat.{ℕ, ◌+◌, ◌-◌, ◌<◌}
-use native.Mathlib.Omega.{arith}
+use Prim.Native.Nat.{ℕ, ◌+◌, ◌-◌}
 use mathlib.Core.Path.{◌≡◌, refl, ◌∙◌, ap, sym, subst}
 use mathlib.Core.Logic.{⊎_elim, ◌≢◌}
 use mathlib.Core.List.{List, [], ◌∷◌, Memᴰ as In}
-use lib.ListN.{length, set}
+use lib.ListN.{set}
 use lib.Seq.{get_or-set_other, set_comm}
 use lib.IntN.{ℤ, pos}
 use Rattle.links.specs.Head.{item_of, head, Growing}

@@ -16,10 +16,10 @@ dealt c g w k =
     let m = c.loop-rr.invariant g w k in
     let h = taken g (gather_to (hidden g c.args.c) g c.loop-rr.rr) in
     elim c.if-tints-rr-eq0.branch [
-      then-tints-rr-eq0 v ↦
-        let z = v.if-tints-rr-eq0.true in
-        rw (v.heads-is, v.up-is, v.down-is, v.stack-is) (hide w m.stand d m z (v.hide_option-stack.ensures h (around w m.stand d m z) (around-holds w m.stand d m z)))
-    | else-tints-rr-eq0 v ↦ rw (v.heads-is, v.up-is, v.down-is, v.stack-is) (spare w m.stand d m v.if-tints-rr-eq0.false)
+      | then-tints-rr-eq0 v ↦
+          let z = v.if-tints-rr-eq0.true in
+          rw (v.heads-is, v.up-is, v.down-is, v.stack-is) (hide w m.stand d m z (v.hide_option-stack.ensures h (around w m.stand d m z) (around-holds w m.stand d m z)))
+      | else-tints-rr-eq0 v ↦ rw (v.heads-is, v.up-is, v.down-is, v.stack-is) (spare w m.stand d m v.if-tints-rr-eq0.false)
     ]
 
 pub loop-rr-init : goal.loop-rr-init

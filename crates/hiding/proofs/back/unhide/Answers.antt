@@ -1,12 +1,11 @@
 -- `hiding::back::unhide` meets its contract: at each place of the walk only the options from there on are away. Assumes nothing.
-use Rattle.std.proofs.Common.{◌+◌, length, arith}
+use Rattle.std.proofs.Common.{◌+◌, length}
 use Rattle.links.specs.Ground.{Ground, taken, Holds}
 use Rattle.links.specs.Taking.{hidden, hides}
 use Rattle.hiding.specs.Hiding.{Column}
 use Rattle.hiding.specs.Away.{Away}
 use Rattle.hiding.proofs.Order.{gather_later}
-use Rattle.hiding.proofs.Columns.{stand-small, tint-in}
-use Rattle.hiding.proofs.DescentBack.{room, begin-in, begin, finish, next-in, next, next-less, spare, behind, behind-away}
+use Rattle.hiding.proofs.DescentBack.{room, begin-in, begin, finish, next, next-less, spare, behind, behind-away}
 use Rattle.hiding.proofs.back.unhide.Goals as goal
 use Rattle.hiding.proofs.back.unhide.Goals.{Joined-tints-rr-eq0, then-tints-rr-eq0, else-tints-rr-eq0}
 
@@ -18,10 +17,10 @@ dealt c g w k =
     let m = c.loop-rr.invariant g w k in
     let rest = gather_later (hidden g c.args.c) g (c.loop-rr.rr + 1) in
     elim c.if-tints-rr-eq0.branch [
-      then-tints-rr-eq0 v ↦
-        let z = v.if-tints-rr-eq0.true in
-        rw (v.heads-is, v.up-is, v.down-is) (v.unhide_option.ensures g rest (behind w m.stand d m z) (behind-away w m.stand d m z))
-    | else-tints-rr-eq0 v ↦ rw (v.heads-is, v.up-is, v.down-is) (spare w m.stand d m v.if-tints-rr-eq0.false)
+      | then-tints-rr-eq0 v ↦
+          let z = v.if-tints-rr-eq0.true in
+          rw (v.heads-is, v.up-is, v.down-is) (v.unhide_option.ensures g rest (behind w m.stand d m z) (behind-away w m.stand d m z))
+      | else-tints-rr-eq0 v ↦ rw (v.heads-is, v.up-is, v.down-is) (spare w m.stand d m v.if-tints-rr-eq0.false)
     ]
 
 pub link-rr-requires : goal.link-rr-requires

@@ -1,5 +1,5 @@
 -- `hiding::back::unhide_option` meets its contract: at each place of the walk what is ahead of it is still away. Assumes nothing.
-use Rattle.std.proofs.Common.{◌∙◌, length, sym, arith}
+use Rattle.std.proofs.Common.{◌∙◌, length, sym}
 use Rattle.hiding.proofs.Aways.{away-room}
 use Rattle.hiding.proofs.RoundBack.{begin, finish, inside, over, over-less, relink-needs, more-needs, full}
 use Rattle.hiding.proofs.back.unhide_option.Goals as goal

@@ -1,0 +1,13 @@
+-- The walk round the option: the lists are those without what was passed, no primary column was emptied yet, and the way back to r falls.
+use Rattle.std.proofs.Common.{length}
+use Rattle.links.specs.Ground.{Ground}
+use Rattle.links.specs.Way.{way}
+use Rattle.removing.specs.Deleting.{Deleting}
+use Rattle.removing.proofs.Deletes.{Midway}
+use Rattle.removing.proofs.delete.delete_others.Given as goal
+
+abbrev pub invariant-loop-q : goal.invariant-loop-q
+invariant-loop-q l = (g : Ground) → Deleting g l.r l.fn.heads l.fn.up l.fn.down → Midway g l.r l.np l.heads l.up l.down l.q
+
+abbrev pub decreases-loop-q : goal.decreases-loop-q
+decreases-loop-q l = way (length l.fn.heads) l.r l.q
