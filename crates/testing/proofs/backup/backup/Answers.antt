@@ -2,9 +2,7 @@
 -- columns passed there. Assumes nothing.
 use Rattle.std.proofs.Common.{◌≡◌, ◌∙◌, sym, ap, length}
 use Rattle.links.specs.Column as Column
-use Rattle.links.specs.Ground.{Ground}
 use Rattle.links.specs.Head.{item_of, head}
-use Rattle.testing.specs.Undo.{Behind}
 use Rattle.testing.proofs.Backwards.{behind-in, behind-done, behind-over, behind-over-way, behind-link, behind-below, behind-back}
 use Rattle.testing.proofs.backup.backup.Goals as goal
 
@@ -48,10 +46,12 @@ link-p-requires c =
 pub pass_2-requires : goal.pass_2-requires
 pass_2-requires c =
     let a = c.args in
-    let l = c.loop-k in
-    (_, behind-below c.requires.0 a.tints.now l.k a.r a.start l.heads l.up l.down (l.invariant c.requires.0 c.requires.1) c.loop-k-test.true
-      (λ e. c.if-cc-eq0.false (c.item_at-cc.ensures ∙ e)) c.link-p.result c.tint_at-x.result
-      (c.link-p.ensures ∙ ap (Column.at l.up) c.item_at-cc.ensures) c.tint_at-x.ensures)
+    let l = c.loop-k in (
+      _,
+      behind-below c.requires.0 a.tints.now l.k a.r a.start l.heads l.up l.down (l.invariant c.requires.0 c.requires.1) c.loop-k-test.true
+          (λ e. c.if-cc-eq0.false (c.item_at-cc.ensures ∙ e)) c.link-p.result c.tint_at-x.result
+          (c.link-p.ensures ∙ ap (Column.at l.up) c.item_at-cc.ensures) c.tint_at-x.ensures,
+    )
 
 pub loop-k-preserved : goal.loop-k-preserved
 loop-k-preserved c =

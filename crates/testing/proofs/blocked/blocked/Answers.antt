@@ -47,10 +47,11 @@ pass_2-requires c =
     let u = c.unhide_entries in
     let h = c.requires.0 in
     let s = (e.ensures h c.requires.1 c.requires.2).1 c.if-q-r.false in
-    let rival_back = u.ensures (ground_to h a.r e.result.q e.result.p) (stopped-half h a.tints.now a.marks.now a.r a.start a.np e.new.heads e.new.up e.new.down e.result.q e.result.p e.result.qq s) in
-    (ground_at h a.r e.result.q,
-     stopped-below h a.tints.now a.marks.now a.r a.start a.np e.new.heads e.new.up e.new.down e.result.q e.result.p e.result.qq s u.new.heads u.new.up u.new.down rival_back
-     c.link-above.result c.tint_at-x.result c.link-above.ensures c.tint_at-x.ensures)
+    let rival_back = u.ensures (ground_to h a.r e.result.q e.result.p) (stopped-half h a.tints.now a.marks.now a.r a.start a.np e.new.heads e.new.up e.new.down e.result.q e.result.p e.result.qq s) in (
+      ground_at h a.r e.result.q,
+      stopped-below h a.tints.now a.marks.now a.r a.start a.np e.new.heads e.new.up e.new.down e.result.q e.result.p e.result.qq s u.new.heads u.new.up u.new.down rival_back
+          c.link-above.result c.tint_at-x.result c.link-above.ensures c.tint_at-x.ensures,
+    )
 
 pub backup-requires-2 : goal.backup-requires-2
 backup-requires-2 c =
@@ -62,8 +63,8 @@ backup-requires-2 c =
     let s = (e.ensures h c.requires.1 c.requires.2).1 c.if-q-r.false in
     let rival_back = u.ensures (ground_to h a.r e.result.q e.result.p) (stopped-half h a.tints.now a.marks.now a.r a.start a.np e.new.heads e.new.up e.new.down e.result.q e.result.p e.result.qq s) in
     let column_back = v.ensures (ground_at h a.r e.result.q)
-        (stopped-below h a.tints.now a.marks.now a.r a.start a.np e.new.heads e.new.up e.new.down e.result.q e.result.p e.result.qq s u.new.heads u.new.up u.new.down rival_back
-        c.link-above.result c.tint_at-x.result c.link-above.ensures c.tint_at-x.ensures) in
+    (stopped-below h a.tints.now a.marks.now a.r a.start a.np e.new.heads e.new.up e.new.down e.result.q e.result.p e.result.qq s u.new.heads u.new.up u.new.down rival_back
+    c.link-above.result c.tint_at-x.result c.link-above.ensures c.tint_at-x.ensures) in
     (h, stopped-behind h a.tints.now a.marks.now a.r a.start a.np e.new.heads e.new.up e.new.down e.result.q e.result.p e.result.qq s v.new.heads v.new.up v.new.down column_back)
 
 pub returns-clause-same : goal.returns-clause-same
@@ -76,8 +77,8 @@ returns-clause-same c =
     let s = (e.ensures h c.requires.1 c.requires.2).1 c.if-q-r.false in
     let rival_back = u.ensures (ground_to h a.r e.result.q e.result.p) (stopped-half h a.tints.now a.marks.now a.r a.start a.np e.new.heads e.new.up e.new.down e.result.q e.result.p e.result.qq s) in
     let column_back = v.ensures (ground_at h a.r e.result.q)
-        (stopped-below h a.tints.now a.marks.now a.r a.start a.np e.new.heads e.new.up e.new.down e.result.q e.result.p e.result.qq s u.new.heads u.new.up u.new.down rival_back
-        c.link-above.result c.tint_at-x.result c.link-above.ensures c.tint_at-x.ensures) in
+    (stopped-below h a.tints.now a.marks.now a.r a.start a.np e.new.heads e.new.up e.new.down e.result.q e.result.p e.result.qq s u.new.heads u.new.up u.new.down rival_back
+    c.link-above.result c.tint_at-x.result c.link-above.ensures c.tint_at-x.ensures) in
     lists-same c.requires.2
     (c.backup-2.ensures h
     (stopped-behind h a.tints.now a.marks.now a.r a.start a.np e.new.heads e.new.up e.new.down e.result.q e.result.p e.result.qq s v.new.heads v.new.up v.new.down column_back))

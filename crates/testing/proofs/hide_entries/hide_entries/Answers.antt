@@ -1,12 +1,12 @@
 -- `testing::hide_entries::hide_entries` meets its contract: at each place of the three loops the nodes that are out are those that the place
 -- says, and no primary item that r does not hold was emptied. Assumes nothing.
-use Rattle.std.proofs.Common.{◌≡◌, ◌≢◌, ℕ, ◌+◌, ◌∙◌, sym, ap, subst, not, List, ℤ, length, arith}
+use Rattle.std.proofs.Common.{◌≡◌, ℕ, ◌+◌, ◌∙◌, sym, ap, subst, not, List, ℤ, length, arith}
 use Rattle.rules.specs.Blocked.{agree}
 use Rattle.links.specs.Head.{item_of, head}
 use Rattle.links.specs.Column as Column
 use Rattle.links.specs.Ground.{Ground, taken, Holds}
 use Rattle.testing.specs.Stops.{stops_at}
-use Rattle.testing.specs.Forward.{Test, Alive, ground_at, Outer, rivals_to, Middle, Inner}
+use Rattle.testing.specs.Forward.{Test, Alive, ground_at, rivals_to, Middle, Inner}
 use Rattle.testing.proofs.Items.{outer-begins, outer-over, outer-over-way, outer-link, enter}
 use Rattle.testing.proofs.Rivals.{leave, middle-tint, middle-fits, round, spare, down-in, step_down, step_left}
 use Rattle.testing.proofs.Entries.{inner-in, inner-done, inner-over, inner-over-way, inner-way, inner-fewer, inner-mark, inner-unlink, inner-take, inner-stops}
@@ -30,8 +30,8 @@ inner c h w l =
     let o = c.items in
     let v = c.rivals in
     let m = v.invariant h
-        (enter h a.tints.now a.marks.now a.r a.start a.np o.heads o.up o.down o.q (o.invariant h w l) c.items-test.true (λ e. c.if-cc-eq0.false (c.item_at-cc.ensures ∙ e))
-        c.link-p.result (c.link-p.ensures ∙ ap (Column.at o.down) c.item_at-cc.ensures)) in
+    (enter h a.tints.now a.marks.now a.r a.start a.np o.heads o.up o.down o.q (o.invariant h w l) c.items-test.true (λ e. c.if-cc-eq0.false (c.item_at-cc.ensures ∙ e))
+    c.link-p.result (c.link-p.ensures ∙ ap (Column.at o.down) c.item_at-cc.ensures)) in
     c.entries.invariant h
     (round h a.tints.now a.marks.now a.r a.start a.np v.heads v.up v.down o.q v.p m c.rivals-test.true c.tint_at-x.result c.tint_at-x.ensures
     (sym (c.clash.ensures ∙ ap (λ (y : ℕ). not (agree c.tint_at-x.result y)) c.tint_at-y.ensures) ∙ c.if-clash.true))
@@ -46,16 +46,18 @@ passed c h m =
     let v = c.rivals in
     let told : c.clash.result ≡ not (agree c.tint_at-x.result (Column.at a.tints.now v.p)) = c.clash.ensures ∙ ap (λ (y : ℕ). not (agree c.tint_at-x.result y)) c.tint_at-y.ensures in
     elim c.if-clash.branch [
-      then-clash+else-entries-test w ↦
-        let e = w.entries in
-        let i = e.invariant h
-            (round h a.tints.now a.marks.now a.r a.start a.np v.heads v.up v.down q v.p m c.rivals-test.true c.tint_at-x.result c.tint_at-x.ensures (sym told ∙ w.if-clash.true)) in
-        (subst (λ (x : List ℤ). Alive h a.marks.now a.r a.np x) (sym w.heads-is) i.alive,
-         rw (w.heads-is, w.up-is, w.down-is) (inner-done h a.tints.now a.marks.now a.r a.start a.np e.heads e.up e.down q v.p e.qq i w.entries-test.false))
-    | else-clash w ↦
-        (subst (λ (x : List ℤ). Alive h a.marks.now a.r a.np x) (sym w.heads-is) m.alive,
-         rw (w.heads-is, w.up-is, w.down-is)
-         (spare h a.tints.now a.marks.now a.r a.start a.np v.heads v.up v.down q v.p m c.rivals-test.true c.tint_at-x.result c.tint_at-x.ensures (sym told ∙ w.if-clash.false)))
+      | then-clash+else-entries-test w ↦
+          let e = w.entries in
+          let i = e.invariant h
+          (round h a.tints.now a.marks.now a.r a.start a.np v.heads v.up v.down q v.p m c.rivals-test.true c.tint_at-x.result c.tint_at-x.ensures (sym told ∙ w.if-clash.true)) in (
+            subst (λ (x : List ℤ). Alive h a.marks.now a.r a.np x) (sym w.heads-is) i.alive,
+            rw (w.heads-is, w.up-is, w.down-is) (inner-done h a.tints.now a.marks.now a.r a.start a.np e.heads e.up e.down q v.p e.qq i w.entries-test.false),
+          )
+      | else-clash w ↦ (
+        subst (λ (x : List ℤ). Alive h a.marks.now a.r a.np x) (sym w.heads-is) m.alive,
+        rw (w.heads-is, w.up-is, w.down-is)
+            (spare h a.tints.now a.marks.now a.r a.start a.np v.heads v.up v.down q v.p m c.rivals-test.true c.tint_at-x.result c.tint_at-x.ensures (sym told ∙ w.if-clash.false)),
+      )
     ]
 
 pub items-init : goal.items-init
@@ -225,6 +227,6 @@ returns-then-stops c =
     λ h w l. (
       (λ z. absurd (c.items-test.true z)),
       (λ n.
-      inner-stops h a.tints.now a.marks.now a.r a.start a.np e.heads e.up e.down c.items.q c.rivals.p e.qq
-      (inner (goal.at.returns-then-stops c).In-entries h w l) c.entries-test.true (λ z. c.if-i-eq0.false (c.item_at-i.ensures ∙ z)) (sym asked ∙ c.if-stops.true)),
+          inner-stops h a.tints.now a.marks.now a.r a.start a.np e.heads e.up e.down c.items.q c.rivals.p e.qq
+          (inner (goal.at.returns-then-stops c).In-entries h w l) c.entries-test.true (λ z. c.if-i-eq0.false (c.item_at-i.ensures ∙ z)) (sym asked ∙ c.if-stops.true)),
     )

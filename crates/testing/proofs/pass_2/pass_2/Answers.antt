@@ -20,16 +20,18 @@ met c g m =
     let l = c.loop-k in
     let told : c.clash.result ≡ not (agree a.x (Column.at a.tints.now l.k)) = c.clash.ensures ∙ ap (λ (y : ℕ). not (agree a.x y)) c.tint_at-y.ensures in
     elim c.if-clash.branch [
-      then-clash w ↦
-        let b = sym told ∙ w.if-clash.true in
-        (clash-fresh g a.tints.now l.k a.x a.start l.heads l.up l.down (l.invariant g m) c.loop-k-test.true b,
-         rw (w.heads-is, w.up-is, w.down-is)
-         (held g (gather_to (rival_at g (g.plan.col l.k) a.x) g l.k)
-         (w.unhide_entries.ensures (after g (gather_to (rival_at g (g.plan.col l.k) a.x) g l.k)) (below_half g a.tints.now l.k a.x a.start l.heads l.up l.down (l.invariant g m) c.loop-k-test.true b))))
-    | else-clash w ↦
-        let b = sym told ∙ w.if-clash.false in
-        (agree_fresh g a.tints.now l.k a.x a.start l.heads l.up l.down (l.invariant g m) c.loop-k-test.true b,
-         rw (w.heads-is, w.up-is, w.down-is) (agree-holds g a.tints.now l.k a.x a.start l.heads l.up l.down (l.invariant g m) c.loop-k-test.true b))
+      | then-clash w ↦
+          let b = sym told ∙ w.if-clash.true in (
+            clash-fresh g a.tints.now l.k a.x a.start l.heads l.up l.down (l.invariant g m) c.loop-k-test.true b,
+            rw (w.heads-is, w.up-is, w.down-is)
+                (held g (gather_to (rival_at g (g.plan.col l.k) a.x) g l.k)
+                (w.unhide_entries.ensures (after g (gather_to (rival_at g (g.plan.col l.k) a.x) g l.k)) (below_half g a.tints.now l.k a.x a.start l.heads l.up l.down (l.invariant g m) c.loop-k-test.true b))),
+          )
+      | else-clash w ↦
+          let b = sym told ∙ w.if-clash.false in (
+            agree_fresh g a.tints.now l.k a.x a.start l.heads l.up l.down (l.invariant g m) c.loop-k-test.true b,
+            rw (w.heads-is, w.up-is, w.down-is) (agree-holds g a.tints.now l.k a.x a.start l.heads l.up l.down (l.invariant g m) c.loop-k-test.true b),
+          )
     ]
 
 pub tint_at-y-requires : goal.tint_at-y-requires
@@ -40,9 +42,11 @@ tint_at-y-requires c =
 pub unhide_entries-requires : goal.unhide_entries-requires
 unhide_entries-requires c =
     let a = c.args in
-    let l = c.loop-k in
-    (_, below_half c.requires.0 a.tints.now l.k a.x a.start l.heads l.up l.down (l.invariant c.requires.0 c.requires.1) c.loop-k-test.true
-      (sym (c.clash.ensures ∙ ap (λ (y : ℕ). not (agree a.x y)) c.tint_at-y.ensures) ∙ c.if-clash.true))
+    let l = c.loop-k in (
+      _,
+      below_half c.requires.0 a.tints.now l.k a.x a.start l.heads l.up l.down (l.invariant c.requires.0 c.requires.1) c.loop-k-test.true
+          (sym (c.clash.ensures ∙ ap (λ (y : ℕ). not (agree a.x y)) c.tint_at-y.ensures) ∙ c.if-clash.true),
+    )
 
 pub link-k-requires : goal.link-k-requires
 link-k-requires c =
