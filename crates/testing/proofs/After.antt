@@ -1,9 +1,9 @@
 -- The ground after nodes were taken out, with its plan in sight; and what the lists are when the last of them is put back. Assumes nothing.
-use Prim.Native.Nat.{ℕ, zero, suc, ◌+◌, ◌-◌, ◌<◌, ◌≤◌}
+use Prim.Native.Nat.{ℕ, ◌+◌, ◌-◌, ◌<◌, ◌≤◌}
 use native.Mathlib.Omega.{arith}
 use mathlib.Core.Path.{◌≡◌, refl, ◌∙◌, ap, sym, subst}
-use mathlib.Core.Logic.{◌⊎◌, inl, inr, ⊎_elim, ◌≢◌}
-use mathlib.Core.Bool.{Bool, true, false, cond, false≢true}
+use mathlib.Core.Logic.{⊎_elim}
+use mathlib.Core.Bool.{true, false, false≢true}
 use mathlib.Core.List.Memᴰ.{head as here}
 use mathlib.Core.List.Memᴰ.{tail as next}
 use mathlib.Core.List.{List, [], ◌∷◌, ◌++◌, Memᴰ as In}
@@ -11,14 +11,14 @@ use lib.ListN.{length, set}
 use lib.IntN.{ℤ, pos}
 use Rattle.links.specs.Head.{item_of, head, Growing}
 use Rattle.links.specs.Column.{at, cut_up, cut_down, tie_up, tie_down}
-use Rattle.links.specs.Plan.{Plan, lo, hi, EntryOf, Header, start}
+use Rattle.links.specs.Plan.{hi, EntryOf, Header}
 use Rattle.links.specs.Ground.{Ground, Tidy, Within, cut_one, taken, Fresh, Holds}
 use Rattle.links.specs.Row.{walked, others}
 use Rattle.links.proofs.Stores.{same?}
 use Rattle.links.proofs.Rings.{without←, up-stays, down-stays}
 use Rattle.links.proofs.Plans.{entry-no-header}
 use Rattle.links.proofs.Rows.{walked-taken, others-taken}
-use Rattle.links.proofs.Grounds.{taken-head, node_in, col-in, length_some, length-small, cut-up-in, cut-down-in, cut-growing, taken-lengths, back-up, back-down, back-heads, taken-append, taken-tidy, fresh-within, fresh-front, fresh-rest, fresh-append, taken-on, on-taken, within-taken}
+use Rattle.links.proofs.Grounds.{taken-head, node_in, col-in, length_some, length-small, cut-up-in, cut-down-in, cut-growing, taken-lengths, back-up, back-down, back-heads, taken-append, taken-tidy, fresh-within, fresh-front, fresh-rest, fresh-append, taken-on, within-taken}
 use Rattle.testing.specs.Undo.{after}
 
 pub taken-after : (g : Ground) (xs : List ℕ) → taken g xs ≡ after g xs

@@ -1,11 +1,11 @@
 -- Two colours clash, and a column is about to be emptied: the tests as the code makes them. Assumes nothing.
-use Prim.Native.Nat.{ℕ, ◌-◌, ◌<◌, ◌≤◌}
+use Prim.Native.Nat.{ℕ}
 use native.Mathlib.Omega.{arith}
-use mathlib.Core.Path.{◌≡◌, refl, ap, ◌∙◌, sym}
+use mathlib.Core.Path.{◌≡◌, ◌∙◌, sym}
 use mathlib.Core.Logic.{◌≢◌}
 use mathlib.Core.Bool.{Bool, true, false, not, ◌&&◌}
-use borrow.Author.Tests.{eq-eqb, lt-ltb, le-ltb, ne_eqb, le-leb, lt-leb}
-use lib.Dec.{ltb, leb, eqb}
+use borrow.Author.Tests.{eq-eqb, lt-ltb, le-ltb, ne_eqb}
+use lib.Dec.{leb, eqb}
 use Rattle.rules.specs.Blocked.{agree}
 
 pub none-clashes : (x y : ℕ) → x ≡ 0 → eqb x 0 ≡ not (agree x y)

@@ -1,23 +1,23 @@
 -- Undoing the walk round the tested option, item by item. Assumes nothing.
-use Prim.Native.Nat.{ℕ, zero, suc, ◌+◌, ◌-◌, ◌<◌, ◌≤◌}
+use Prim.Native.Nat.{ℕ, ◌+◌, ◌-◌, ◌<◌}
 use native.Mathlib.Omega.{arith}
-use mathlib.Core.Path.{◌≡◌, refl, ◌∙◌, ap, sym, subst}
+use mathlib.Core.Path.{◌≡◌, ◌∙◌, ap, sym, subst}
 use mathlib.Core.Logic.{◌≢◌}
 use mathlib.Core.Bool.{true}
-use mathlib.Core.List.{List, [], ◌∷◌, ◌++◌}
+use mathlib.Core.List.{List, ◌++◌}
 use lib.ListN.{length}
-use lib.IntN.{ℤ, pos}
+use lib.IntN.{ℤ}
 use Rattle.links.specs.Head.{item_of, head}
 use Rattle.links.specs.Column.{at}
-use Rattle.links.specs.Plan.{lo, hi, EntryOf, Header, start}
+use Rattle.links.specs.Plan.{EntryOf, Header}
 use Rattle.links.specs.Ground.{Ground, Tidy, taken, Fresh, Holds}
 use Rattle.links.specs.Row.{walked}
 use Rattle.links.specs.Way.{way_back}
-use Rattle.links.specs.Taking.{gather_to, rival_at, rivals, testing}
-use Rattle.links.proofs.Plans.{header-before, entry-till, row-mate}
+use Rattle.links.specs.Taking.{rivals, testing}
+use Rattle.links.proofs.Plans.{entry-till, row-mate}
 use Rattle.links.proofs.Rows.{At, walked_none}
 use Rattle.links.proofs.Grounds.{fresh-front}
-use Rattle.testing.specs.Undo.{after, rivals_up_to, Below, Behind}
+use Rattle.testing.specs.Undo.{after, Below, Behind}
 use Rattle.testing.proofs.After.{after-tidy, after_more, after-header, fresh-after, held}
 use Rattle.testing.proofs.Back as Back
 use Rattle.testing.proofs.Upwards.{header-in, from-header}

@@ -1,7 +1,7 @@
 -- A column in which rivals are met: who is a rival, and how a step up or down the column moves what was gathered. Assumes nothing.
 use Prim.Native.Nat.{ℕ, ◌+◌, ◌<◌, ◌≤◌}
 use native.Mathlib.Omega.{arith}
-use mathlib.Core.Path.{◌≡◌, refl, ◌∙◌, ap, sym}
+use mathlib.Core.Path.{◌≡◌, ◌∙◌, ap, sym}
 use mathlib.Core.Bool.{true, false, not, false≢true, and-eq-true_iff}
 use mathlib.Core.List.{List, []}
 use borrow.Author.Tests.{not-true}

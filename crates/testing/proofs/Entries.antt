@@ -1,29 +1,29 @@
 -- The walk forwards round one rival. Assumes nothing.
-use Prim.Native.Nat.{ℕ, zero, suc, ◌+◌, ◌-◌, ◌<◌, ◌≤◌}
+use Prim.Native.Nat.{ℕ, ◌+◌, ◌-◌, ◌<◌}
 use native.Mathlib.Omega.{arith}
 use mathlib.Core.Path.{◌≡◌, refl, ◌∙◌, ap, sym, subst}
-use mathlib.Core.Logic.{◌⊎◌, inl, inr, ⊎_elim, ◌≢◌}
-use mathlib.Core.Bool.{Bool, true, false, not, ◌&&◌, cond, false≢true}
+use mathlib.Core.Logic.{⊎_elim, ◌≢◌}
+use mathlib.Core.Bool.{true, false, false≢true}
 use mathlib.Core.List.{List, [], ◌∷◌, ◌++◌, Memᴰ as In}
 use borrow.Author.Tests.{eq-eqb, ne_eqb, le-leb}
 use lib.ListN.{length, set}
 use lib.IntN.{ℤ, pos}
 use Rattle.links.specs.Head.{item_of, head}
 use Rattle.links.specs.Column.{at, cut_up, cut_down}
-use Rattle.links.specs.Plan.{lo, hi, EntryOf, Header, start}
+use Rattle.links.specs.Plan.{hi, EntryOf}
 use Rattle.links.specs.Ground.{Ground, Tidy, Within, taken, Fresh, Holds}
 use Rattle.links.specs.Row.{walked, others}
 use Rattle.links.specs.Way.{way}
-use Rattle.links.specs.Taking.{gather_to, rival_at, length_of}
+use Rattle.links.specs.Taking.{rival_at}
 use Rattle.links.proofs.Stores.{read_set}
 use Rattle.links.proofs.Plans.{row-till}
 use Rattle.links.proofs.Rows.{At, In-walked, others-In}
 use Rattle.links.proofs.Gathering.{gather-one}
 use Rattle.testing.specs.Stops.{stops_at}
 use Rattle.testing.specs.Undo.{after}
-use Rattle.testing.specs.Forward.{Alive, ground_at, Item, rivals_to, ground_to, Inner, Stopped}
+use Rattle.testing.specs.Forward.{Alive, ground_at, rivals_to, ground_to, Inner, Stopped}
 use Rattle.links.proofs.Grounds.{fresh-within}
-use Rattle.testing.proofs.After.{after-tidy, after_more, after-others, after-within, after-walked, fresh-after, fresh-one-more, take_out, fewer-asks, unlink-asks}
+use Rattle.testing.proofs.After.{after-tidy, after_more, after-others, after-within, fresh-after, fresh-one-more, take_out, fewer-asks, unlink-asks}
 use Rattle.testing.proofs.Forth as Forth
 use Rattle.testing.proofs.Stages.{ground-tidy, rivals-fresh, rival-row}
 

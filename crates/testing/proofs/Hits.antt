@@ -1,28 +1,26 @@
 -- An option that clashes with the tested one: every node that a test takes out is of such an option, and r's own is none. Assumes nothing.
-use Prim.Native.Nat.{ℕ, zero, suc, ◌+◌, ◌-◌, ◌<◌, ◌≤◌}
+use Prim.Native.Nat.{ℕ, ◌<◌, ◌≤◌}
 use native.Mathlib.Omega.{arith}
 use mathlib.Core.Path.{◌≡◌, refl, ◌∙◌, ap, sym, subst}
-use mathlib.Core.Logic.{◌⊎◌, inl, inr, ⊎_elim, ◌≢◌}
-use mathlib.Core.Bool.{Bool, true, false, not, ◌&&◌, cond, false≢true}
-use mathlib.Core.List.{List, [], ◌∷◌, ◌++◌, Memᴰ as In}
+use mathlib.Core.Logic.{⊎_elim, ◌≢◌}
+use mathlib.Core.Bool.{Bool, true, false, not, ◌&&◌, false≢true}
+use mathlib.Core.List.{List, Memᴰ as In}
 use borrow.Author.Tests.{eq-eqb}
 use lib.Dec.{T, eqb, eqb→eq}
-use lib.IntN.{ℤ, pos}
 use Rattle.rules.specs.Lists.{any}
 use Rattle.rules.specs.Blocked.{agree}
 use Rattle.theorems.proofs.Words.Tests.{T_true, T_false, T_and}
 use Rattle.theorems.proofs.Words.Lists.{any→, any←}
-use Rattle.links.specs.Head.{item_of, head}
-use Rattle.links.specs.Plan.{lo, hi, EntryOf, Header, start}
-use Rattle.links.specs.Ground.{Ground, Tidy, Within, taken, Fresh, Holds}
+use Rattle.links.specs.Plan.{lo, hi, EntryOf}
+use Rattle.links.specs.Ground.{Ground, Tidy, taken}
 use Rattle.links.specs.Row.{span, walked, others}
-use Rattle.links.specs.Taking.{gather_to, rival_at, clashes_at, Tested}
+use Rattle.links.specs.Taking.{rival_at, clashes_at, Tested}
 use Rattle.links.proofs.Stores.{same?}
 use Rattle.links.proofs.Plans.{row-mate}
 use Rattle.links.proofs.Spans.{In-span, span-In}
-use Rattle.links.proofs.Rows.{At, In-walked, In-others, others-In}
+use Rattle.links.proofs.Rows.{In-walked, In-others, others-In}
 use Rattle.links.proofs.Gathering.{In-gather}
-use Rattle.testing.specs.Forward.{Clash, Out, Stage, out_at, ground_at, Item, rivals_to, ground_to}
+use Rattle.testing.specs.Forward.{Clash, out_at, ground_at, Item, rivals_to, ground_to}
 use Rattle.testing.proofs.After.{after-tidy, gone-In}
 use Rattle.testing.proofs.Stages.{item-entry, item-number, ground-tidy, rival-row, rival-clash, rivals-fresh}
 

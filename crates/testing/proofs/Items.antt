@@ -1,28 +1,26 @@
 -- The walk forwards over the items of the tested option. Assumes nothing.
-use Prim.Native.Nat.{ℕ, zero, suc, ◌+◌, ◌-◌, ◌<◌, ◌≤◌}
+use Prim.Native.Nat.{ℕ, ◌+◌, ◌<◌}
 use native.Mathlib.Omega.{arith}
 use mathlib.Core.Path.{◌≡◌, refl, ◌∙◌, ap, sym, subst}
-use mathlib.Core.Logic.{◌⊎◌, inl, inr, ⊎_elim, ◌≢◌}
-use mathlib.Core.Bool.{Bool, true, false, not, cond, false≢true}
-use mathlib.Core.List.{List, [], ◌∷◌, ◌++◌}
+use mathlib.Core.Logic.{◌≢◌}
+use mathlib.Core.Bool.{true}
+use mathlib.Core.List.{List, []}
 use lib.ListN.{length}
-use lib.IntN.{ℤ, pos}
+use lib.IntN.{ℤ}
 use Rattle.links.specs.Head.{item_of, head}
 use Rattle.links.specs.Column.{at}
-use Rattle.links.specs.Plan.{lo, hi, EntryOf, Header, start}
-use Rattle.links.specs.Ground.{Ground, Tidy, Within, taken, Fresh, Holds}
-use Rattle.links.specs.Row.{walked, others}
+use Rattle.links.specs.Plan.{EntryOf, Header}
+use Rattle.links.specs.Ground.{Ground, Tidy, taken, Holds}
+use Rattle.links.specs.Row.{walked}
 use Rattle.links.specs.Way.{way, reach}
-use Rattle.links.specs.Taking.{gather_to, rival_at, rivals, testing, Tested}
+use Rattle.links.specs.Taking.{testing}
 use Rattle.links.proofs.Plans.{header-before, entry-till, row-till}
 use Rattle.links.proofs.Rows.{At, walk_begins, walked_none}
-use Rattle.testing.specs.Undo.{after}
-use Rattle.testing.specs.Forward.{Test, Stage, Alive, out_at, ground_at, Outer, Item, rivals_to, Middle}
-use Rattle.testing.proofs.After.{after-tidy, after-header, after_more}
+use Rattle.testing.specs.Forward.{Test, Stage, out_at, ground_at, Outer, Item, rivals_to, Middle}
+use Rattle.testing.proofs.After.{after-header}
 use Rattle.testing.proofs.Columns.{none-gathered, down-on, down-col, down-gathered}
 use Rattle.testing.proofs.Forth as Forth
-use Rattle.testing.proofs.Testing.{testing-more}
-use Rattle.testing.proofs.Stages.{stage-none, stage-more, item-entry, ground-tidy}
+use Rattle.testing.proofs.Stages.{stage-none, item-entry, ground-tidy}
 
 -- the place of the walk, and what is known there
 module _ (h : Ground) (tints marks : List ℕ) (r s np : ℕ) (heads : List ℤ) (up down : List ℕ) where

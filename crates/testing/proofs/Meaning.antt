@@ -1,34 +1,33 @@
 -- What the test finds: where it breaks off, r is blocked; where it comes round, r is not. Assumes nothing.
-use Prim.Native.Nat.{ℕ, zero, suc, ◌+◌, ◌-◌, ◌<◌, ◌≤◌}
+use Prim.Native.Nat.{ℕ, ◌-◌, ◌<◌, ◌≤◌}
 use native.Mathlib.Omega.{arith}
 use mathlib.Core.Path.{◌≡◌, refl, ◌∙◌, ap, sym, subst}
-use mathlib.Core.Logic.{◌⊎◌, inl, inr, ⊎_elim, ◌≢◌}
+use mathlib.Core.Logic.{⊎_elim, ◌≢◌}
 use mathlib.Core.Bool.{Bool, true, false, not, ◌&&◌, ◌||◌, and-eq-true_iff}
-use mathlib.Core.List.{List, [], ◌∷◌, ◌++◌, Memᴰ as In}
+use mathlib.Core.List.{List, Memᴰ as In}
 use borrow.Author.Tests.{eqb-true, eqb-false, leb-true, not-true}
 use lib.Dec.{T, eqb, leb, eqb→eq, ltb→lt, lt→ltb, T_not, not_T}
 use lib.IntN.{ℤ, pos}
 use Rattle.rules.specs.Lists.{any, all, from}
-use Rattle.rules.specs.Blocked.{agree}
 use Rattle.theorems.proofs.Words.Tests.{T_true, T_false, true-T, T_and, and_T, T-imp, imp-T, eq→eqb}
 use Rattle.theorems.proofs.Words.Lists.{any→, any←, any_none, none_any, all→, all←, In-from, from-In}
 use Rattle.links.specs.Head.{item_of, head}
 use Rattle.links.specs.Column.{at, without}
 use Rattle.links.specs.Plan.{Plan, lo, hi, EntryOf, Header, start}
-use Rattle.links.specs.Ground.{Ground, tally, Tidy, Within, taken, Fresh, Holds}
+use Rattle.links.specs.Ground.{Ground, tally, Tidy, Within}
 use Rattle.links.specs.Row.{span, full, walked, others}
-use Rattle.links.specs.Taking.{in_column, nodes_of, clashes_at, shut_at, node_blocked, Tested, Marked, length_of}
+use Rattle.links.specs.Taking.{in_column, nodes_of, clashes_at, shut_at, node_blocked, Tested, length_of}
 use Rattle.links.proofs.Stores.{same?}
 use Rattle.links.proofs.Plans.{row-mate, entry-from, entry-till}
 use Rattle.links.proofs.Rings.{without←}
 use Rattle.links.proofs.Spans.{In-span, span-In}
 use Rattle.links.proofs.Rows.{In-others, others-In}
 use Rattle.links.proofs.Tallies.{tally-cut, tally-some, tally-has}
-use Rattle.links.proofs.Grounds.{on-taken, length-is, length_some}
+use Rattle.links.proofs.Grounds.{on-taken, length-is}
 use Rattle.links.proofs.Descending.{column→, column←, on-entry}
 use Rattle.testing.specs.Stops.{stops_at}
 use Rattle.testing.specs.Undo.{after}
-use Rattle.testing.specs.Forward.{Test, Clash, Out, Alive, out_at, ground_at, rivals_to, ground_to, Outer, Inner, Stopped}
+use Rattle.testing.specs.Forward.{Clash, out_at, ground_at, rivals_to, ground_to, Outer, Inner, Stopped}
 use Rattle.testing.proofs.After.{after-tidy, after-header}
 use Rattle.testing.proofs.Entries.{inner-entry, inner-number, inner-col, inner-within, to-tidy}
 use Rattle.testing.proofs.Hits.{Hit, hit-foreign, hit-clashes, clashes-hit, hit-rival, hit-gone, own-stays}

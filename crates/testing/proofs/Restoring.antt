@@ -1,25 +1,22 @@
 -- From the place where the test ended, the undoing: what each of its functions finds. Assumes nothing.
-use Prim.Native.Nat.{ℕ, zero, suc, ◌+◌, ◌-◌, ◌<◌, ◌≤◌}
+use Prim.Native.Nat.{ℕ, ◌+◌, ◌-◌, ◌<◌, ◌≤◌}
 use native.Mathlib.Omega.{arith}
-use mathlib.Core.Path.{◌≡◌, refl, ◌∙◌, ap, sym, subst}
-use mathlib.Core.Logic.{◌≢◌}
-use mathlib.Core.Bool.{Bool, true, false}
-use mathlib.Core.List.{List, [], ◌∷◌, ◌++◌}
+use mathlib.Core.Path.{◌≡◌, ◌∙◌, sym, subst}
+use mathlib.Core.Bool.{true}
+use mathlib.Core.List.{List}
 use lib.ListN.{length}
 use lib.IntN.{ℤ}
 use Rattle.links.specs.Column.{at}
-use Rattle.links.specs.Plan.{lo, hi, EntryOf, Header, start}
+use Rattle.links.specs.Plan.{lo, hi, EntryOf}
 use Rattle.links.specs.Ground.{Ground, Tidy, taken, Fresh, Holds}
-use Rattle.links.specs.Row.{walked}
-use Rattle.links.specs.Taking.{gather_to, rival_at, testing}
+use Rattle.links.specs.Taking.{gather_to, rival_at}
 use Rattle.links.proofs.Plans.{entry-till}
-use Rattle.links.proofs.Grounds.{on-taken}
-use Rattle.testing.specs.Undo.{after, Half, Below, Behind}
-use Rattle.testing.specs.Forward.{Test, out_at, ground_at, Outer, Item, rivals_to, ground_to, Inner, Stopped}
+use Rattle.testing.specs.Undo.{Half, Below, Behind}
+use Rattle.testing.specs.Forward.{Test, out_at, ground_at, Outer, rivals_to, ground_to, Inner, Stopped}
 use Rattle.testing.proofs.After.{held}
 use Rattle.testing.proofs.Columns.{rival→}
 use Rattle.testing.proofs.Upwards.{link-in, step-up}
-use Rattle.testing.proofs.Stages.{item-entry, ground-tidy, rival-row, rivals-fresh}
+use Rattle.testing.proofs.Stages.{item-entry, ground-tidy, rivals-fresh}
 use Rattle.testing.proofs.Entries.{to-tidy, row}
 
 -- The walk stopped at node q of r's option, or came round: `backup` from the node before.

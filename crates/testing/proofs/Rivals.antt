@@ -1,27 +1,27 @@
 -- The walk forwards down the column of one item of the tested option. Assumes nothing.
-use Prim.Native.Nat.{ℕ, zero, suc, ◌+◌, ◌-◌, ◌<◌, ◌≤◌}
+use Prim.Native.Nat.{ℕ, ◌+◌, ◌<◌, ◌≤◌}
 use native.Mathlib.Omega.{arith}
-use mathlib.Core.Path.{◌≡◌, refl, ◌∙◌, ap, sym, subst}
+use mathlib.Core.Path.{◌≡◌, ◌∙◌, ap, sym, subst}
 use mathlib.Core.Logic.{◌≢◌}
 use mathlib.Core.Bool.{true, false, not, false≢true}
 use mathlib.Core.List.{List, [], ◌∷◌, ◌++◌}
 use borrow.Author.Tests.{not-true, not-false}
 use lib.ListN.{length}
-use lib.IntN.{ℤ, pos}
+use lib.IntN.{ℤ}
 use Rattle.rules.specs.Blocked.{agree}
 use Rattle.links.specs.Head.{item_of, head}
 use Rattle.links.specs.Column.{at}
-use Rattle.links.specs.Plan.{lo, hi, EntryOf, Header, start}
-use Rattle.links.specs.Ground.{Ground, Tidy, Within, taken, Fresh, Holds}
-use Rattle.links.specs.Row.{walked, others}
-use Rattle.links.specs.Taking.{gather_to, rival_at, rivals, testing, Tested}
+use Rattle.links.specs.Plan.{EntryOf, Header, start}
+use Rattle.links.specs.Ground.{Ground, Tidy, taken, Fresh, Holds}
+use Rattle.links.specs.Row.{walked}
+use Rattle.links.specs.Taking.{rival_at, rivals, testing}
 use Rattle.links.proofs.Stores.{not_so}
 use Rattle.links.proofs.Plans.{entry-till}
-use Rattle.links.proofs.Rows.{At, walk_begins, walked_none, full-walked}
+use Rattle.links.proofs.Rows.{walk_begins, walked_none, full-walked}
 use Rattle.links.proofs.Gathering.{gather_none}
 use Rattle.links.proofs.Descending.{on-entry, reach, reach-past, reach-at, left, step_less}
 use Rattle.testing.specs.Undo.{after}
-use Rattle.testing.specs.Forward.{Test, Stage, Alive, out_at, ground_at, Outer, Item, rivals_to, ground_to, Middle, Inner}
+use Rattle.testing.specs.Forward.{Stage, Alive, out_at, ground_at, Outer, Item, rivals_to, ground_to, Middle, Inner}
 use Rattle.testing.proofs.After.{after-tidy, after_more}
 use Rattle.testing.proofs.Columns.{rival→, rival←, column-same, down-on, down-col, down-gathered}
 use Rattle.testing.proofs.Testing.{testing-more}

@@ -1,15 +1,14 @@
 -- Undoing the walk round one rival, step by step. Assumes nothing.
-use Prim.Native.Nat.{ℕ, zero, suc, ◌+◌, ◌-◌, ◌<◌, ◌≤◌}
+use Prim.Native.Nat.{ℕ, ◌+◌, ◌-◌, ◌<◌}
 use native.Mathlib.Omega.{arith}
-use mathlib.Core.Path.{◌≡◌, refl, ◌∙◌, ap, sym, subst}
+use mathlib.Core.Path.{◌≡◌, ◌∙◌, ap, sym, subst}
 use mathlib.Core.Logic.{◌≢◌}
 use mathlib.Core.List.{List, [], ◌∷◌, ◌++◌}
 use lib.ListN.{length, set}
 use lib.IntN.{ℤ, pos}
 use Rattle.links.specs.Head.{item_of, head, Growing}
 use Rattle.links.specs.Column.{at, tie_up, tie_down}
-use Rattle.links.specs.Plan.{lo, hi, EntryOf}
-use Rattle.links.specs.Ground.{Ground, Tidy, taken, Fresh, Holds}
+use Rattle.links.specs.Ground.{Ground, taken, Fresh, Holds}
 use Rattle.links.specs.Row.{walked}
 use Rattle.links.specs.Way.{way_back}
 use Rattle.links.proofs.Rows.{At, walked_none}

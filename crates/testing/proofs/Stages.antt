@@ -1,10 +1,10 @@
 -- Who is out at each item of the tested option: an option's nodes leave together, all but the one at which it was met; so a rival that is met
 -- is wholly in its columns, and nothing is taken twice. Assumes nothing.
-use Prim.Native.Nat.{ℕ, zero, suc, ◌+◌, ◌-◌, ◌<◌, ◌≤◌}
+use Prim.Native.Nat.{ℕ, ◌≤◌}
 use native.Mathlib.Omega.{arith}
 use mathlib.Core.Path.{◌≡◌, refl, ◌∙◌, ap, sym, subst}
 use mathlib.Core.Logic.{◌⊎◌, inl, inr, ⊎_elim, ◌≢◌}
-use mathlib.Core.Bool.{Bool, true, false, not, cond, false≢true}
+use mathlib.Core.Bool.{Bool, true, false}
 use mathlib.Core.List.Memᴰ.{append_cases as In-append}
 use mathlib.Core.List.Memᴰ.{append_left as In-append-l}
 use mathlib.Core.List.Memᴰ.{append_right as In-append-r}
@@ -12,22 +12,20 @@ use mathlib.Core.List.Memᴰ.{eq_of_singleton as In-one}
 use mathlib.Core.List.Memᴰ.{head as here}
 use mathlib.Core.List.Memᴰ.{not-nil}
 use mathlib.Core.List.{List, [], ◌∷◌, ◌++◌, Memᴰ as In}
-use lib.IntN.{ℤ, pos}
+use lib.IntN.{pos}
 use Rattle.rules.specs.Blocked.{agree}
-use Rattle.links.specs.Head.{item_of, head}
-use Rattle.links.specs.Plan.{lo, hi, EntryOf, Header, start}
-use Rattle.links.specs.Ground.{Ground, Tidy, Within, taken, Fresh, Holds}
+use Rattle.links.specs.Head.{head}
+use Rattle.links.specs.Plan.{EntryOf, start}
+use Rattle.links.specs.Ground.{Ground, Tidy, Within, taken, Fresh}
 use Rattle.links.specs.Row.{walked, others}
-use Rattle.links.specs.Taking.{gather_to, rival_at, rivals, testing, Tested}
+use Rattle.links.specs.Taking.{rival_at, rivals}
 use Rattle.links.proofs.Plans.{row-mate, entry-from, entry-till}
-use Rattle.links.proofs.Rows.{At, In-walked, In-others, others-In, walked_none}
+use Rattle.links.proofs.Rows.{In-walked, In-others, others-In}
 use Rattle.links.proofs.Grounds.{on-taken}
 use Rattle.links.proofs.Gathering.{In-gather, gather-In, gather-fresh}
-use Rattle.testing.specs.Undo.{after}
-use Rattle.testing.specs.Forward.{Test, Clash, Out, Stage, out_at, ground_at, Item, rivals_to}
+use Rattle.testing.specs.Forward.{Clash, Out, Stage, out_at, ground_at, Item, rivals_to}
 use Rattle.testing.proofs.After.{after-tidy, after-others, after-within, after-fresh, gone-In}
 use Rattle.testing.proofs.Columns.{rival→, rival←, rival-entry}
-use Rattle.testing.proofs.Testing.{testing-more}
 
 -- before the first item none is out
 pub stage-none : (h : Ground) → Stage h [] []

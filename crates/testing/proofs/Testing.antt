@@ -1,6 +1,6 @@
 -- What a test takes out, item by item. Assumes nothing.
 use Prim.Native.Nat.{ℕ}
-use mathlib.Core.Path.{◌≡◌, refl, ◌∙◌, ap, sym}
+use mathlib.Core.Path.{◌≡◌, ◌∙◌, ap, sym}
 use mathlib.Core.List.{List, [], ◌∷◌, ◌++◌, append_assoc, append-nil}
 use Rattle.links.specs.Ground.{Ground, taken}
 use Rattle.links.specs.Taking.{rivals, testing}

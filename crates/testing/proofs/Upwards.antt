@@ -1,22 +1,21 @@
 -- Undoing the walk down one column, step by step. Assumes nothing.
-use Prim.Native.Nat.{ℕ, zero, suc, ◌+◌, ◌-◌, ◌<◌, ◌≤◌}
+use Prim.Native.Nat.{ℕ, ◌+◌, ◌-◌, ◌<◌, ◌≤◌}
 use native.Mathlib.Omega.{arith}
 use mathlib.Core.Path.{◌≡◌, refl, ◌∙◌, ap, sym, subst}
-use mathlib.Core.Logic.{◌≢◌}
 use mathlib.Core.Bool.{Bool, true, false, not, false≢true}
-use mathlib.Core.List.{List, [], ◌∷◌, ◌++◌}
+use mathlib.Core.List.{List, ◌++◌}
 use borrow.Author.Tests.{not-true, not-false}
 use lib.ListN.{length}
 use lib.IntN.{ℤ}
 use Rattle.rules.specs.Blocked.{agree}
 use Rattle.links.specs.Column.{at}
-use Rattle.links.specs.Plan.{start, lo, hi, EntryOf, Header}
+use Rattle.links.specs.Plan.{start, EntryOf, Header}
 use Rattle.links.specs.Ground.{Ground, Tidy, taken, Fresh, Holds}
 use Rattle.links.specs.Row.{walked, others}
 use Rattle.links.specs.Shown.{Tinted}
 use Rattle.links.specs.Taking.{gather_to, rival_at}
 use Rattle.links.proofs.Stores.{not_so}
-use Rattle.links.proofs.Plans.{header-before, entry-from, entry-till}
+use Rattle.links.proofs.Plans.{header-before, entry-till}
 use Rattle.links.proofs.Grounds.{fresh-front}
 use Rattle.links.proofs.Rows.{back-begins, back-begun}
 use Rattle.links.proofs.Gathering.{gather-one, gather_none}

@@ -1,11 +1,11 @@
 -- What the test of one option finds at each place of its walk. Assumes nothing.
-use Rattle.std.specs.Prelude.{ℕ, ◌+◌, ◌<◌, ◌≤◌, ◌≡◌, ◌⊎◌, ◌≢◌, Bool, true, false, not, T, ℤ, pos}
+use Rattle.std.specs.Prelude.{ℕ, ◌<◌, ◌≤◌, ◌≡◌, ◌⊎◌, ◌≢◌, true, false, ℤ, pos}
 use mathlib.Core.List.{List, Memᴰ as In}
 use Rattle.rules.specs.Blocked.{agree}
 use Rattle.links.specs.Head.{item_of, head}
 use Rattle.links.specs.Column.{at}
 use Rattle.links.specs.Plan.{lo, hi, EntryOf, Header, start}
-use Rattle.links.specs.Ground.{Ground, Tidy, taken, Fresh, Holds}
+use Rattle.links.specs.Ground.{Ground, taken, Fresh, Holds}
 use Rattle.links.specs.Row.{walked, others}
 use Rattle.links.specs.Way.{reach}
 use Rattle.links.specs.Shown.{Tinted}

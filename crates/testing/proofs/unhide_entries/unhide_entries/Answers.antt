@@ -1,8 +1,6 @@
 -- `testing::unhide_entries::unhide_entries` meets its contract: at each place the lists are those of the ground without what the walk had
 -- passed there. Assumes nothing.
-use Rattle.std.proofs.Common.{◌≡◌, ◌∙◌, sym, length}
-use Rattle.links.specs.Ground.{Ground}
-use Rattle.testing.specs.Undo.{Half}
+use Rattle.std.proofs.Common.{◌∙◌, sym, length}
 use Rattle.testing.proofs.Round.{half_in, half-done, half_over, half-over-way, half-more, half-relink, half_back}
 use Rattle.testing.proofs.unhide_entries.unhide_entries.Goals as goal
 
