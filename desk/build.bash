@@ -1,7 +1,7 @@
 # shellcheck shell=bash disable=SC2154
 # Sourced with `root` set to the root of the repository: the archive of the calls, and how a C program is built with it and run.
 # There are two ways:
-#   host  the machine's own compiler, `cc` (or $CC), and an archive for the machine: `rt staticlib` makes it for x86-64; for another
+#   host  the machine's own compiler, `cc` (or $CC), and an archive for the machine: `tools/archive` makes it for x86-64; for another
 #         processor ../shared/tools/native-archive does, where it is at hand
 #   kit   the kit's compiler, linker and C library, which are for x86-64, with the cut-down headers in bare/; on another
 #         processor the program runs under the kit's emulator. Needs nothing but the kit
@@ -24,12 +24,14 @@ choose_way() {
 find_kit() {
     local rt
     rt=$(command -v rt) || die "the Rattle kit is not on the path (rt)"
-    kit=$(dirname "$(dirname "$(readlink -f "$rt")")")/on/$machine/toolchain
+    kit=$(dirname "$(dirname "$(readlink -f "$rt")")")
+    if [ -d "$kit/on/$machine/toolchain" ]; then kit=$kit/on/$machine; fi
+    kit=$kit/toolchain
 }
 
 # No source is newer than the file.
 is_fresh() {
-    [ -e "$1" ] && [ -z "$(find "$root/crates" "$root/crates.txt" -name must-fail -prune -o -newer "$1" -print -quit)" ]
+    [ -e "$1" ] && [ -z "$(find "$root/crates" "$root/crates.txt" \( -name must-fail -o -name out \) -prune -o -newer "$1" -print -quit)" ]
 }
 
 # Sets `archive`, and makes it where a source has changed. Only proved code gets into it.
@@ -39,7 +41,7 @@ make_archive() {
         archive=$(readlink -f "$KAPKYREM_ARCHIVE")
         return 0
     fi
-    local make=(rt staticlib kapkyrem)
+    local make=("$root/tools/archive")
     archive=$root/target/staticlib/libkapkyrem.a
     if [ "$way" = host ] && [ "$machine" != x86_64 ]; then
         archive=$out/libkapkyrem-$machine.a

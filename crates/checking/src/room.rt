@@ -4,7 +4,7 @@ ghost use Rattle.rules.specs.Checks.{Room, Results, short_room, short_results};
 ghost use Rattle.checking.specs.Lent.{Lent};
 
 // The lengths of the ten lists: the five of the working room, and the five of the result.
-#[derive(Drop)]
+#[derive(Clone, Copy)]
 pub struct Lengths {
     pub heads: usize,
     pub up: usize,

@@ -11,7 +11,7 @@ use Rattle.links.specs.Ground.{Ground, Tidy}
 use Rattle.links.proofs.Plans.{header-before}
 use Rattle.links.proofs.Descending.{Stand, reach, reach-past, reach-at, left, stand-in, stand-next, step_less}
 use Rattle.showing.specs.Showing.{condemned_at}
-use Rattle.showing.proofs.Hidden.{hiding, hiding-tidy}
+use Rattle.showing.proofs.HiddenStates.{hiding, hiding-tidy}
 use Rattle.condemning.specs.Search.{down_to, Chain, Search, Hiding, Tried, Trying}
 use Rattle.condemning.proofs.Searching.{search-stand, next-same, first-none, stand-column}
 

@@ -25,7 +25,7 @@ use Rattle.links.proofs.Spans.{In-span}
 use Rattle.links.proofs.Grounds.{on-taken, taken-head}
 use Rattle.links.proofs.Descending.{Stand, column→, column←, on-entry, reach, reach-past, reach-at, stand-header, stand-in, stand-next, step-gap, step-far, step_less, header-gap, left}
 use Rattle.showing.specs.Showing.{full_before, condemned_at}
-use Rattle.showing.proofs.Hidden.{hiding, hiding-is, hides-fresh, hiding-tidy, hiding-own, hiding-full}
+use Rattle.showing.proofs.HiddenStates.{hiding, hiding-is, hides-fresh, hiding-tidy, hiding-own, hiding-full}
 use Rattle.showing.proofs.TestedNode.{tested-hidden}
 use Rattle.links.specs.Lead.{Led, Leads}
 use Rattle.condemning.specs.Marks.{Known, Marking}

@@ -28,7 +28,7 @@ use Rattle.links.proofs.Grounds.{taken-append, taken-tidy, taken-head, fresh-wit
 use Rattle.links.proofs.Rows.{walked-taken}
 use Rattle.links.proofs.Descending.{column→, on-entry}
 use Rattle.showing.specs.Showing.{full_before, deletes, Condemns, condemned_at}
-use Rattle.showing.proofs.Hidden.{after, taken-after}
+use Rattle.showing.proofs.HiddenStates.{after, taken-after}
 use Rattle.showing.proofs.Deleted.{deletes-fresh, condemned-apart}
 use Rattle.removing.specs.Deleting.{Deleting, Deleted}
 use Rattle.removing.proofs.Emptying.{first_some, first-none}

@@ -18,7 +18,7 @@ use Rattle.links.specs.Taking.{node_blocked, Marked}
 use Rattle.links.proofs.Plans.{entry-till}
 use Rattle.links.proofs.Descending.{column→, on-entry}
 use Rattle.showing.specs.Showing.{condemned_at}
-use Rattle.showing.proofs.Hidden.{hiding, hiding-tidy}
+use Rattle.showing.proofs.HiddenStates.{hiding, hiding-tidy}
 use Rattle.testing.specs.Forward.{Test}
 use Rattle.links.specs.Lead.{Led, Leads}
 use Rattle.condemning.specs.Marks.{Known, Marking}

@@ -20,7 +20,7 @@ use Rattle.hiding.specs.Away.{Rising}
 use Rattle.hiding.proofs.Pushing.{last_out-append}
 use Rattle.hiding.proofs.Rises.{rising-apart}
 use Rattle.hiding.proofs.Aways.{away-taken}
-use Rattle.hiding.proofs.Hides.{hidden-within, gathered-rising, gathered-fresh, gathered-off-column}
+use Rattle.hiding.proofs.Gathered.{hidden-within, gathered-rising, gathered-fresh, gathered-off-column}
 use Rattle.hiding.proofs.Columns.{head-stand, header-gathers, stand-inside, step-gathers, behind-headers, stand-entry, hidden-here, shown-here}
 
 -- The walk stands at rr: the lists are without the others of each hidden node that it passed.

@@ -18,7 +18,7 @@ use Rattle.hiding.specs.Away.{Rising, Away, Behind}
 use Rattle.hiding.proofs.Rises.{rising-rest}
 use Rattle.hiding.proofs.Aways.{all_back, away-room, away-taken}
 use Rattle.hiding.proofs.Order.{gather_later, gather-split, later_same, later-one, later-none}
-use Rattle.hiding.proofs.Hides.{gathered-rising, gathered-off-column}
+use Rattle.hiding.proofs.Gathered.{gathered-rising, gathered-off-column}
 use Rattle.hiding.proofs.Columns.{head-stand, header-gathers, stand-inside, further, step-gathers, behind-headers, stand-entry, hidden-here, shown-here}
 
 -- The walk stands at rr: the others of each hidden node from there on are away.

@@ -7,7 +7,7 @@ pub mod Aways
 pub mod Ahead
 pub mod RoundBack
 pub mod Order
-pub mod Hides
+pub mod Gathered
 pub mod Columns
 pub mod Descent
 pub mod DescentBack

@@ -8,8 +8,7 @@ use crate::packed::pack_desk;
 use desk::reduce::reduce;
 
 // For C each list is a pointer and a count of bytes. include/kapkyrem.h describes every parameter.
-#[unsafe(no_mangle)]
-pub extern "C" fn kapkyrem_reduce(
+pub fn kapkyrem_reduce(
     np: u32,
     ns: u32,
     cap: u32,

@@ -7,8 +7,7 @@ use renumbering::answer::Renumbering;
 use renumbering::bytes::compact_bytes;
 
 // Each item of a result as its place in the kept list. For C each list is a pointer and a count of bytes.
-#[unsafe(no_mangle)]
-pub extern "C" fn kapkyrem_compact(kept: &[u8], primaries: u32, items: &[u8], out: &mut [u8]) -> u64
+pub fn kapkyrem_compact(kept: &[u8], primaries: u32, items: &[u8], out: &mut [u8]) -> u64
     ensures { called_compact result out.new ≡ called_renumbered (compact_bytes_outcome kept.now primaries items.now out.old) }
 {
     let answer = compact_bytes(kept, primaries, items, &mut *out);

@@ -8,8 +8,7 @@ use crate::packed::pack_lists;
 use calls::reduce;
 
 // For C each list is a pointer and a count of numbers. include/kapkyrem.h describes every parameter.
-#[unsafe(no_mangle)]
-pub extern "C" fn kapkyrem_reduce_lists(
+pub fn kapkyrem_reduce_lists(
     np: u32,
     ns: u32,
     cap: u32,

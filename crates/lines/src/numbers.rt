@@ -5,7 +5,7 @@ ghost use Rattle.std.specs.Prelude.{◌≡◌, length};
 use crate::text::next;
 
 // How far a text is read: the entries that are complete, whether the one in hand has a digit, and whether its colour is being read.
-#[derive(Drop)]
+#[derive(Clone, Copy)]
 pub struct Place {
     pub entries: usize,
     pub open: bool,

@@ -25,7 +25,7 @@ use Rattle.links.specs.Taking.{last_out, first_out, hides, leaves, off_column, m
 use Rattle.links.proofs.Plans.{entry-from, entry-no-header}
 use Rattle.links.proofs.Grounds.{on-taken, taken-head}
 use Rattle.showing.specs.Showing.{state_of, deletes, Condemns, condemned_at}
-use Rattle.showing.proofs.Hidden.{after, taken-after}
+use Rattle.showing.proofs.HiddenStates.{after, taken-after}
 use Rattle.showing.proofs.Condemned.{condemns, condemned→}
 use Rattle.showing.proofs.Deleted.{deletes-fresh, deleted-ready, condemned-apart}
 use Rattle.showing.proofs.ItemStep.{chosen_is, chosen_none, step-removes, removing-empties, step-deletes, deleting-empties}

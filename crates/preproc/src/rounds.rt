@@ -9,7 +9,7 @@ use crate::step::{Step, reduce_options};
 use links::head::item_at;
 
 // What the rounds find: the column of the emptied primary item and the cause, or 0; the rounds run; whether the last one removed nothing.
-#[derive(Drop)]
+#[derive(Clone, Copy)]
 pub struct Found {
     pub item: usize,
     pub cause: u32,

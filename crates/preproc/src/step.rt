@@ -13,7 +13,7 @@ use removing::remove::remove_item;
 
 // What a step or a round comes to: the column of the primary item that was left in no option and the cause, or 0; and whether an item or an
 // option was removed.
-#[derive(Drop)]
+#[derive(Clone, Copy)]
 pub struct Step {
     pub item: usize,
     pub cause: u32,

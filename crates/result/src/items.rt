@@ -11,7 +11,7 @@ ghost use Rattle.result.specs.Reading.{Standing};
 use links::head::item_at;
 
 // How many of the kept items are primary, and how many secondary.
-#[derive(Drop)]
+#[derive(Clone, Copy)]
 pub struct Counts {
     pub primaries: u32,
     pub secondaries: u32,

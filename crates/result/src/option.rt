@@ -9,7 +9,7 @@ ghost use Rattle.result.specs.Reading.{OptionAt};
 use links::head::{is_boundary, item_at, option_at};
 
 // How many options and entries are written.
-#[derive(Drop)]
+#[derive(Clone, Copy)]
 pub struct Cursor {
     pub option: usize,
     pub entry: usize,

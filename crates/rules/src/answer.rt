@@ -4,7 +4,7 @@ ghost use Rattle.rules.specs.Paper.{paper};
 
 use crate::number::Item;
 
-#[derive(Drop)]
+#[derive(Clone, Copy)]
 pub enum Answer {
     // 0: the counts of kept primaries, secondaries, options and entries; the rounds run; whether the last one removed nothing
     Reduced {

@@ -1,10 +1,10 @@
 // An item's number and an option's number: two kinds, so that neither can stand where the other is meant.
 ghost use Rattle.std.specs.Prelude.{◌≡◌};
 
-#[derive(Drop)]
+#[derive(Clone, Copy)]
 pub struct Item(pub u32);
 
-#[derive(Drop)]
+#[derive(Clone, Copy)]
 pub struct Opt(pub u32);
 
 impl Item {

@@ -4,7 +4,7 @@ ghost use Rattle.rules.specs.Problem.{figures};
 ghost use Rattle.rules.specs.Sizing.{figures_of, sizing};
 
 // The most that is taken: the counts of items, options and entries, and the highest colour.
-#[derive(Drop)]
+#[derive(Clone, Copy)]
 pub struct Figures {
     pub items: u32,
     pub options: u32,
@@ -12,7 +12,7 @@ pub struct Figures {
     pub colour: u32,
 }
 
-#[derive(Drop)]
+#[derive(Clone, Copy)]
 pub struct Problem {
     // primary items, which are numbered first, and secondary items
     pub np: u32,
@@ -22,7 +22,7 @@ pub struct Problem {
 }
 
 // Counts that are taken, or the number of the check that refuses them; its place is 0.
-#[derive(Drop)]
+#[derive(Clone, Copy)]
 pub enum Sized {
     Fits(Problem),
     Refused(u32),

@@ -8,7 +8,7 @@ use rules::answer::Answer;
 
 // What the lists must be like after an answer: how many numbers stand at the front of the lists of the result, and whether the working lists
 // are zero or hold the pattern.
-#[derive(Drop)]
+#[derive(Clone, Copy)]
 pub(crate) struct Wrote {
     pub cleared: bool,
     pub kept: usize,
@@ -104,7 +104,7 @@ fn room(
 }
 
 // np, ns and cap.
-#[derive(Drop)]
+#[derive(Clone, Copy)]
 pub(crate) struct Counts {
     pub np: u32,
     pub ns: u32,

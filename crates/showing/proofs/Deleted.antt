@@ -29,7 +29,7 @@ use Rattle.links.proofs.Rows.{In-others}
 use Rattle.links.proofs.Gathering.{others-distinct}
 use Rattle.showing.specs.Showing.{state_of, deletes, Condemns}
 use Rattle.showing.proofs.Lists.{distinct-reverse}
-use Rattle.showing.proofs.Hidden.{after, taken-after, others-within}
+use Rattle.showing.proofs.HiddenStates.{after, taken-after, others-within}
 use Rattle.showing.proofs.Deleting.{In-deletes, deletes-In}
 
 module _ (g : Ground) (R : Ready g) where

@@ -7,7 +7,7 @@ pub mod Columns
 pub mod Gathered
 pub mod Lengths
 pub mod Begins
-pub mod Hidden
+pub mod HiddenStates
 pub mod Blocked
 pub mod Condemned
 pub mod Chosen

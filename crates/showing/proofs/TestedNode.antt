@@ -15,7 +15,7 @@ use Rattle.links.proofs.Plans.{entry-no-header}
 use Rattle.links.proofs.Grounds.{off-taken, taken-off, taken-on, taken-head}
 use Rattle.showing.specs.Showing.{state_of}
 use Rattle.showing.proofs.Shows.{own-option, node-uncoloured}
-use Rattle.showing.proofs.Hidden.{hiding, hiding-is, hides-In, In-hides, hides-fresh, hiding-tidy, hiding→, hiding←, hiding-own}
+use Rattle.showing.proofs.HiddenStates.{hiding, hiding-is, hides-In, In-hides, hides-fresh, hiding-tidy, hiding→, hiding←, hiding-own}
 
 module _ (g : Ground) (R : Ready g) (c r : ℕ) (e : EntryOf g.plan r) (o : g.on r ≡ true) (i : g.plan.col r ≡ c + 1) (z : g.plan.tint r ≡ 0) where
   W : Planned g.plan

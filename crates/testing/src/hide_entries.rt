@@ -9,7 +9,7 @@ use links::head::item_at;
 
 // Where the walk is: at node q of the tested option, at rival p in the column of q's item, at node qq of p's option. With q back at the
 // node of the test, the walk came round.
-#[derive(Drop)]
+#[derive(Clone, Copy)]
 pub struct Place {
     pub q: usize,
     pub p: usize,

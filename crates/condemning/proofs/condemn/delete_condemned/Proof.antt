@@ -6,7 +6,7 @@ use mathlib.Core.List.{List, [], ◌∷◌, ◌++◌}
 use lib.ListN.{length}
 use Rattle.links.specs.Ground.{Ground}
 use Rattle.showing.specs.Showing.{deletes}
-use Rattle.showing.proofs.Hidden.{after}
+use Rattle.showing.proofs.HiddenStates.{after}
 use Rattle.condemning.specs.Search.{Sparing}
 use Rattle.condemning.proofs.Sparing.{Deletes, spare-begin, spare-end, spare-deleting, spare-within, spare-stop, spare-led, spare-in, spare-lower, spare-next}
 use Rattle.condemning.proofs.condemn.delete_condemned.Statement.{statement}

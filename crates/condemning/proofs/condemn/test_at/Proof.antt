@@ -2,7 +2,7 @@
 -- the front of the chain. Assumes nothing.
 use mathlib.Core.Path.{◌≡◌, refl, ◌∙◌, sym}
 use borrow.Author.Rules.{rules}
-use Rattle.showing.proofs.Hidden.{hiding}
+use Rattle.showing.proofs.HiddenStates.{hiding}
 use Rattle.condemning.proofs.Trying.{try-tints, try-coloured, try-led, try-item, try-later, try-marking, try-test, try-no, try-yes, try-place, try_holds, try-small}
 use Rattle.condemning.proofs.condemn.test_at.Statement.{statement}
 use Rattle.condemning.proofs.condemn.test_at.Tie as tie

@@ -1,0 +1,15 @@
+-- The walk round the option: what is ahead of it is still away, and the way back to rr falls.
+use Rattle.std.proofs.Common.{ℕ, List, ◌++◌, length}
+use Rattle.links.specs.Ground.{Ground}
+use Rattle.links.specs.Row.{others}
+use Rattle.links.specs.Way.{way}
+use Rattle.hiding.specs.Away.{Away, Behind}
+use Rattle.hiding.proofs.RoundBack.{RoundBack}
+use Rattle.hiding.proofs.back.unhide_option.Given as goal
+
+abbrev pub invariant-loop-nn : goal.invariant-loop-nn
+invariant-loop-nn l =
+    (g : Ground) (rest : List ℕ) → Behind g l.rr rest → Away g (others g l.rr ++ rest) l.fn.heads l.fn.up l.fn.down → RoundBack g l.rr rest l.heads l.up l.down l.nn
+
+abbrev pub decreases-loop-nn : goal.decreases-loop-nn
+decreases-loop-nn l = way (length l.fn.heads) l.rr l.nn

@@ -1,0 +1,38 @@
+// The desk's call, over lists of bytes, four to a number, the lowest first.
+ghost use Rattle.std.specs.Prelude.{◌≡◌};
+ghost use Rattle.engine.specs.Call.{result_lists};
+ghost use Rattle.desk.specs.Desk.{desk_outcome};
+ghost use Rattle.kapkyrem.specs.Calls.{called_desk, called_bytes};
+
+// For C each list is a pointer and a count of bytes. include/kapkyrem.h describes every parameter.
+#[unsafe(no_mangle)]
+pub extern "C" fn kapkyrem_reduce(
+    np: u32,
+    ns: u32,
+    cap: u32,
+    items: &[u8],
+    colours: &[u8],
+    ends: &[u8],
+    kept: &mut [u8],
+    out_ends: &mut [u8],
+    numbers: &mut [u8],
+    out_items: &mut [u8],
+    out_colours: &mut [u8],
+) -> u64
+    ensures { called_desk result (result_lists kept.new out_ends.new numbers.new out_items.new out_colours.new)
+        ≡ called_bytes (desk_outcome np ns cap items.now colours.now ends.now (result_lists kept.old out_ends.old numbers.old out_items.old out_colours.old)) }
+{
+    kapkyrem::bytes::kapkyrem_reduce(
+        np,
+        ns,
+        cap,
+        items,
+        colours,
+        ends,
+        &mut *kept,
+        &mut *out_ends,
+        &mut *numbers,
+        &mut *out_items,
+        &mut *out_colours,
+    )
+}

@@ -1,0 +1,14 @@
+-- The walk back round the tested option: at each place the lists are those of the ground without what the test had taken out in the columns
+-- passed there.
+use Rattle.std.proofs.Common.{length}
+use Rattle.links.specs.Ground.{Ground}
+use Rattle.links.specs.Way.{way_back}
+use Rattle.testing.specs.Undo.{Behind}
+use Rattle.testing.proofs.backup.backup.Given as goal
+
+abbrev pub invariant-loop-k : goal.invariant-loop-k
+invariant-loop-k l =
+    (h : Ground) → Behind h l.tints l.q l.r l.start l.fn.heads l.fn.up l.fn.down → Behind h l.tints l.k l.r l.start l.heads l.up l.down
+
+abbrev pub decreases-loop-k : goal.decreases-loop-k
+decreases-loop-k l = way_back (length l.fn.heads) l.r l.k
