@@ -1,10 +1,10 @@
 -- The nodes are laid out with the ways down from the last nodes left open, and closed when all are there: the lists are then those that would
 -- have been written at once. Assumes nothing.
-use Rattle.std.proofs.Common.{◌≡◌, ℕ, zero, suc, ◌+◌, ◌-◌, ◌<◌, ◌≤◌, true, ◌≢◌, ◌⊎◌, List, length, set, ℤ, negsuc, sym, refl, ap, ◌∙◌, subst, inl, inr, ⊎_elim, arith, length-set, get_or-set_other, get_or-set_same, ext_get_or, lt-length-set}
+use Rattle.std.proofs.Common.{◌≡◌, ℕ, zero, suc, ◌+◌, ◌-◌, ◌<◌, ◌≤◌, ◌≢◌, ◌⊎◌, List, length, set, ℤ, negsuc, sym, refl, ap, ◌∙◌, subst, inl, inr, ⊎_elim, arith, length-set, get_or-set_other, get_or-set_same, ext_get_or, lt-length-set}
 use Rattle.links.specs.Column.{at, Tied}
 use Rattle.links.specs.Plan.{Plan, start, EntryOf, Header, Planned}
 use Rattle.links.proofs.Stores.{same?}
-use Rattle.links.proofs.Plans.{entry-from, entry-till, header-before, entry-no-header, past-no-header}
+use Rattle.links.proofs.Plans.{entry-from, entry-no-header, past-no-header}
 use Rattle.building.specs.Laid.{below, Laid, Last, Open, closing}
 use Rattle.building.proofs.Masks.{header-below}
 use Rattle.building.proofs.RingEnd.{end_up, end_down}

@@ -1,5 +1,5 @@
 -- The loop of `close_columns`: the first i columns are closed.
-use Rattle.std.proofs.Common.{◌≡◌, ◌-◌, ◌≤◌, length}
+use Rattle.std.proofs.Common.{◌≡◌, ◌-◌, ◌≤◌}
 use Rattle.building.specs.Laid.{closing}
 use Rattle.building.proofs.close_columns.Given as goal
 

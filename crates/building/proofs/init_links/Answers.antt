@@ -1,6 +1,5 @@
 -- `building::init_links` meets its contract: the options before k are laid out, and then the columns are closed. Assumes nothing.
-use Rattle.std.proofs.Common.{ℕ, arith}
-use Rattle.building.specs.Build.{Buildable}
+use Rattle.std.proofs.Common.{arith}
 use Rattle.building.proofs.Options.{buildable-kept, place-begin, turn-asks, place-next, place-closes, place_end}
 use Rattle.building.proofs.init_links.Goals as goal
 

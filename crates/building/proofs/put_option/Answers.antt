@@ -1,6 +1,5 @@
 -- `building::put_option` meets its contract: an option is skipped, or its entries are laid out and then its boundary. Assumes nothing.
 use Rattle.std.proofs.Common.{◌≡◌, true, sym, refl, ◌∙◌}
-use borrow.Author.Tests.{not-false}
 use Rattle.building.specs.Build.{primary_in}
 use Rattle.building.proofs.Turns.{turn-fill, turn_in, turn-close}
 use Rattle.building.proofs.put_option.Goals as goal
