@@ -7,9 +7,10 @@ use Rattle.words.proofs.read_words.Goals as goal
 pub loop-k-preserved : goal.loop-k-preserved
 loop-k-preserved c =
     let ns = numbers_of c.args.bytes.now in
-    let l = c.loop-k in
-    (omega arith,
+    let l = c.loop-k in (
+      omega arith,
       length-set l.out l.k _ ∙ l.invariant.1,
       ap (λ (z : ℕ). set l.out l.k z) c.word.ensures
-      ∙ ap (λ (z : List ℕ). set z l.k (get_or ns l.k 0)) l.invariant.2
-      ∙ written_next ns c.args.out.now l.k 0 (omega (arith, c.count-n.ensures)) (omega (arith, c.count-n.ensures)))
+          ∙ ap (λ (z : List ℕ). set z l.k (get_or ns l.k 0)) l.invariant.2
+          ∙ written_next ns c.args.out.now l.k 0 (omega (arith, c.count-n.ensures)) (omega (arith, c.count-n.ensures)),
+    )

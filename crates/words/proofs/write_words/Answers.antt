@@ -12,9 +12,10 @@ put_word-requires c = four-room c.loop-k.bytes c.loop-k.k (omega arith)
 pub loop-k-preserved : goal.loop-k-preserved
 loop-k-preserved c =
     let ws = c.args.words.now in
-    let l = c.loop-k in
-    (omega arith,
+    let l = c.loop-k in (
+      omega arith,
       c.put_word.auto.bytes ∙ l.invariant.1,
       c.put_word.ensures
-      ∙ ap (λ (z : List ℕ). sets z (4 * l.k) (bytes_of (get_or ws l.k 0 ∷ []))) l.invariant.2
-      ∙ put_next ws c.args.bytes.now l.k (omega arith) (omega arith))
+          ∙ ap (λ (z : List ℕ). sets z (4 * l.k) (bytes_of (get_or ws l.k 0 ∷ []))) l.invariant.2
+          ∙ put_next ws c.args.bytes.now l.k (omega arith) (omega arith),
+    )
