@@ -2,7 +2,7 @@
 ghost use Rattle.std.specs.Prelude.{◌≡◌};
 ghost use Rattle.renumbering.specs.Outcome.{refusal, refusal_number, refusal_place, packed};
 
-#[derive(Drop)]
+#[derive(Clone, Copy)]
 pub enum Renumbering {
     // 0: the front of the outcome list is filled
     Done,

@@ -9,7 +9,7 @@ use crate::answer::Renumbering;
 use crate::kept::{find, is_rising, not_kept};
 
 // Which of the two renumberings.
-#[derive(Drop)]
+#[derive(Clone, Copy)]
 pub enum Way {
     Compact,
     Crate,
