@@ -3,12 +3,12 @@
 use Prim.Native.Nat.{ℕ, zero, suc, ◌+◌, ◌<◌, ◌≤◌}
 use native.Mathlib.Omega.{arith}
 use native.Mathlib.Numerals.{add-one}
-use mathlib.Core.Path.{◌≡◌, refl, ◌∙◌, ap}
+use mathlib.Core.Path.{◌≡◌, refl, ◌∙◌}
 use mathlib.Core.List.{List, [], ◌∷◌}
 use mathlib.Core.Option.{none, some}
 use lib.ListN.{length, get_or, replicate, drop, drop_of_length-le}
 use lib.Seq.{slice, drop-cons, length-slice}
-use Rattle.rules.specs.Problem.{Entry, entries_of, cut}
+use Rattle.rules.specs.Problem.{entries_of, cut}
 use Rattle.rules.specs.Checks.{Refusal, check_option, check_options}
 use Rattle.theorems.proofs.Checks.Cutting.{Ascend, rise, length-entries_of, check16→}
 use Rattle.checking.specs.Marks.{Below}

@@ -1,5 +1,5 @@
 -- `checking::entries::check_entry` meets its contract: each answer is that of the checks before it. Assumes nothing.
-use Rattle.std.proofs.Common.{◌≡◌, ◌<◌, ◌≤◌, ℕ, arith}
+use Rattle.std.proofs.Common.{◌≡◌, ◌≤◌, ℕ, arith}
 use mathlib.Core.Bool.{false, ◌&&◌, and-false}
 use borrow.Author.Tests.{eq-eqb, ne_eqb, lt-ltb, le-ltb}
 use lib.Dec.{ltb}
@@ -26,17 +26,18 @@ returns-then-colour-most c = λ seen M. rw (lt-ltb _ _ c.if-item-n.false, lt-ltb
 pub returns-then-item-np : goal.returns-then-item-np
 unfolding check_entry
 returns-then-item-np c =
-    λ seen M. rw (lt-ltb _ _ c.if-item-n.false, le-ltb _ _ c.if-colour-most.false, lt-ltb _ _ c.if-item-np.true, lt-ltb _ _ c.if-colour-gt0.true)
+    λ seen M.
+    rw (lt-ltb _ _ c.if-item-n.false, le-ltb _ _ c.if-colour-most.false, lt-ltb _ _ c.if-item-np.true, lt-ltb 0 c.args.colour (omega (arith, c.if-colour-gt0.true)))
 
 pub returns-then-marks-item : goal.returns-then-marks-item
 unfolding check_entry
 returns-then-marks-item c =
     λ seen M.
     let p : (ltb c.args.most c.args.colour ≡ false) × ((ltb c.args.item c.args.np && ltb 0 c.args.colour) ≡ false) =
-        elim c.if-colour-gt0.branch [
-          then-colour-gt0+else-colour-most+else-item-np w ↦ coloured c.args.np _ c.args.item _ w.if-colour-most.false w.if-item-np.false
-          | else-colour-gt0 w ↦ plain c.args.np c.args.most c.args.item _ w.if-colour-gt0.false
-        ] in
+    elim c.if-colour-gt0.branch [
+      | then-colour-gt0+else-colour-most+else-item-np w ↦ coloured c.args.np _ c.args.item _ w.if-colour-most.false w.if-item-np.false
+      | else-colour-gt0 w ↦ plain c.args.np c.args.most c.args.item c.args.colour (omega (arith, w.if-colour-gt0.false))
+    ] in
     rw (lt-ltb _ _ c.if-item-n.false, p.0, p.1, M _, eq-eqb _ _ c.if-marks-item.true)
 
 pub returns : goal.returns
@@ -44,8 +45,8 @@ unfolding check_entry
 returns c =
     λ seen M.
     let p : (ltb c.args.most c.args.colour ≡ false) × ((ltb c.args.item c.args.np && ltb 0 c.args.colour) ≡ false) =
-        elim c.if-colour-gt0.branch [
-          then-colour-gt0+else-colour-most+else-item-np w ↦ coloured c.args.np _ c.args.item _ w.if-colour-most.false w.if-item-np.false
-          | else-colour-gt0 w ↦ plain c.args.np c.args.most c.args.item _ w.if-colour-gt0.false
-        ] in
+    elim c.if-colour-gt0.branch [
+      | then-colour-gt0+else-colour-most+else-item-np w ↦ coloured c.args.np _ c.args.item _ w.if-colour-most.false w.if-item-np.false
+      | else-colour-gt0 w ↦ plain c.args.np c.args.most c.args.item c.args.colour (omega (arith, w.if-colour-gt0.false))
+    ] in
     rw (lt-ltb _ _ c.if-item-n.false, p.0, p.1, M _, ne_eqb _ _ c.if-marks-item.false)

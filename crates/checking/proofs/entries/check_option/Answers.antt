@@ -1,5 +1,5 @@
 -- `checking::entries::check_option` meets its contract: the entries before j have passed, and their items have the mark. Assumes nothing.
-use Rattle.std.proofs.Common.{◌≡◌, ◌<◌, ◌∙◌, ap, sym, arith, get_or, length-set}
+use Rattle.std.proofs.Common.{◌∙◌, ap, sym, arith, get_or, length-set}
 use Rattle.checking.specs.Checked.{refusal_in}
 use Rattle.checking.proofs.EntryByEntry.{option-refused, option-next, item-below}
 use Rattle.checking.proofs.entries.check_option.Goals as goal
