@@ -27,7 +27,6 @@ pub fn refusal(
     ensures { (cap : ℕ) (room : Room) (results : Results) → Lent lent room results
         → refusal_in result ≡ refusal_of (figures_of f) ragged (record { np = np; ns = ns; cap = cap; items = items.now; colours = colours.now; ends = ends.now; room = room; results = results }) }
 {
-    let most = f.colour;
     // `|`, not `||`, here as in the other files: two tests and no branch
     let differ = ragged | (items.len() != colours.len());
     let sized = Problem::within(f, np, ns, ends.len(), items.len(), differ);
@@ -58,5 +57,5 @@ pub fn refusal(
             place: 0,
         };
     }
-    check_entries(np, n, most, items, colours, ends)
+    check_entries(np, n, f.colour, items, colours, ends)
 }

@@ -7,7 +7,7 @@ use mathlib.Core.Bool.{false, ◌||◌}
 use mathlib.Core.List.{List, map, Memᴰ as In}
 use mathlib.Core.Option.{Option, none, some}
 use lib.Dec.{T}
-use Rattle.rules.specs.Lists.{mem, place}
+use Rattle.rules.specs.Lists.{mem}
 use Rattle.rules.specs.Checks.{Refusal}
 use Rattle.rules.specs.Renumber.{Renumbered, renumber_refusal, compact_item, compact_outcome}
 use Rattle.theorems.proofs.Words.Lists.{In-map, In-get_or}

@@ -17,17 +17,17 @@ plain np most item colour h = (le-ltb most colour (omega arith), rw (le-ltb 0 co
 
 pub returns-then-item-n : goal.returns-then-item-n
 unfolding check_entry
-returns-then-item-n c = λ seen M. rw (le-ltb _ _ c.if-item-n.true)
+returns-then-item-n c = λ seen M. rw (le-ltb c.args.item c.args.n (omega (arith, c.if-item-n.true)))
 
 pub returns-then-colour-most : goal.returns-then-colour-most
 unfolding check_entry
-returns-then-colour-most c = λ seen M. rw (lt-ltb _ _ c.if-item-n.false, lt-ltb _ _ c.if-colour-most.true)
+returns-then-colour-most c = λ seen M. rw (lt-ltb c.args.item c.args.n (omega (arith, c.if-item-n.false)), lt-ltb _ _ c.if-colour-most.true)
 
 pub returns-then-item-np : goal.returns-then-item-np
 unfolding check_entry
 returns-then-item-np c =
     λ seen M.
-    rw (lt-ltb _ _ c.if-item-n.false, le-ltb _ _ c.if-colour-most.false, lt-ltb _ _ c.if-item-np.true, lt-ltb 0 c.args.colour (omega (arith, c.if-colour-gt0.true)))
+    rw (lt-ltb c.args.item c.args.n (omega (arith, c.if-item-n.false)), le-ltb _ _ c.if-colour-most.false, lt-ltb _ _ c.if-item-np.true, lt-ltb 0 c.args.colour (omega (arith, c.if-colour-gt0.true)))
 
 pub returns-then-marks-item : goal.returns-then-marks-item
 unfolding check_entry
@@ -38,7 +38,7 @@ returns-then-marks-item c =
       | then-colour-gt0+else-colour-most+else-item-np w ↦ coloured c.args.np _ c.args.item _ w.if-colour-most.false w.if-item-np.false
       | else-colour-gt0 w ↦ plain c.args.np c.args.most c.args.item c.args.colour (omega (arith, w.if-colour-gt0.false))
     ] in
-    rw (lt-ltb _ _ c.if-item-n.false, p.0, p.1, M _, eq-eqb _ _ c.if-marks-item.true)
+    rw (lt-ltb c.args.item c.args.n (omega (arith, c.if-item-n.false)), p.0, p.1, M _, eq-eqb _ _ c.if-marks-item.true)
 
 pub returns : goal.returns
 unfolding check_entry
@@ -49,4 +49,4 @@ returns c =
       | then-colour-gt0+else-colour-most+else-item-np w ↦ coloured c.args.np _ c.args.item _ w.if-colour-most.false w.if-item-np.false
       | else-colour-gt0 w ↦ plain c.args.np c.args.most c.args.item c.args.colour (omega (arith, w.if-colour-gt0.false))
     ] in
-    rw (lt-ltb _ _ c.if-item-n.false, p.0, p.1, M _, ne_eqb _ _ c.if-marks-item.false)
+    rw (lt-ltb c.args.item c.args.n (omega (arith, c.if-item-n.false)), p.0, p.1, M _, ne_eqb _ _ c.if-marks-item.false)

@@ -25,7 +25,7 @@ loop-k-preserved c =
       omega arith,
       c.put_word.auto.bytes ∙ l.invariant.1,
       c.put_word.ensures
-      ∙ ap (λ (v : ℕ). sets l.out (4 * l.k) (bytes_of (v ∷ []))) (c.find-p.ensures ∙ ap f c.word.ensures)
-      ∙ ap (λ (z : List ℕ). sets z (4 * l.k) (bytes_of (f (get_or (numbers_of a.items.now) l.k 0) ∷ []))) l.invariant.2
-      ∙ bytes_next f (numbers_of a.items.now) a.out.now l.k (omega (arith, c.count-n.ensures)) (omega (arith, fours-fit a.out.now, c.requires.2, c.count-n.ensures)),
+          ∙ ap (λ (v : ℕ). sets l.out (4 * l.k) (bytes_of (v ∷ []))) (c.find-p.ensures ∙ ap f c.word.ensures)
+          ∙ ap (λ (z : List ℕ). sets z (4 * l.k) (bytes_of (f (get_or (numbers_of a.items.now) l.k 0) ∷ []))) l.invariant.2
+          ∙ bytes_next f (numbers_of a.items.now) a.out.now l.k (omega (arith, c.count-n.ensures)) (omega (arith, fours-fit a.out.now, c.requires.2, c.count-n.ensures)),
     )

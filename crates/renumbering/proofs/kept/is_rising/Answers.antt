@@ -4,7 +4,7 @@ use Rattle.renumbering.proofs.Climbing.{climbs-all, climbs-not}
 use Rattle.renumbering.proofs.kept.is_rising.Goals as goal
 
 pub returns-then-kept-i : goal.returns-then-kept-i
-returns-then-kept-i c = sym (climbs-not c.args.kept.now c.loop-i.i (omega arith) (omega arith) c.if-kept-i.true)
+returns-then-kept-i c = sym (climbs-not c.args.kept.now c.loop-i.i (omega arith) (omega arith) (omega (arith, c.if-kept-i.true)))
 
 pub returns : goal.returns
 returns c = sym (climbs-all c.args.kept.now c.loop-i.i c.loop-i.invariant.1 (omega arith))

@@ -14,9 +14,10 @@ returns-then-find-all c =
 
 pub loop-k-preserved : goal.loop-k-preserved
 loop-k-preserved c =
-    let kept = numbers_of c.args.kept.now in
-    (omega arith,
-      below_more _ _ c.loop-k.invariant.1 (not-at-end-present kept _ (λ e. c.if-find-all.false (c.find.ensures ∙ ap (place kept) c.word.ensures ∙ e ∙ sym c.count-all.ensures))))
+    let kept = numbers_of c.args.kept.now in (
+      omega arith,
+      below_more _ _ c.loop-k.invariant.1 (not-at-end-present kept _ (λ e. c.if-find-all.false (c.find.ensures ∙ ap (place kept) c.word.ensures ∙ e ∙ sym c.count-all.ensures))),
+    )
 
 pub returns : goal.returns
 returns c =

@@ -12,6 +12,6 @@ loop-k-preserved c =
       omega arith,
       length-set l.out l.k _ ∙ l.invariant.1,
       ap (λ (v : ℕ). set l.out l.k v) c.item_number.ensures
-      ∙ ap (λ (z : List ℕ). set z l.k (f (get_or a.items.now l.k 0))) l.invariant.2
-      ∙ number-next f a.items.now a.out.now l.k (omega arith) (omega (arith, c.requires.2)),
+          ∙ ap (λ (z : List ℕ). set z l.k (f (get_or a.items.now l.k 0))) l.invariant.2
+          ∙ number-next f a.items.now a.out.now l.k (omega arith) (omega (arith, c.requires.2)),
     )

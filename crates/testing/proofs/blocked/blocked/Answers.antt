@@ -1,8 +1,9 @@
 -- `testing::blocked::blocked` meets its contract: the place that the walk gives says whether it came round, and the undoing starts there.
 -- Assumes nothing.
-use Rattle.std.proofs.Common.{sym}
+use Rattle.std.proofs.Common.{sym, arith}
 use Rattle.testing.specs.Forward.{ground_at, ground_to}
-use Rattle.testing.proofs.Restoring.{stopped-some, stopped-half, stopped-link, stopped-below, stopped-behind, lists-same}
+use Rattle.testing.proofs.Entries.{row}
+use Rattle.testing.proofs.Restoring.{stopped-half, stopped-link, stopped-below, stopped-behind, lists-same}
 use Rattle.testing.proofs.Meaning.{stopped-blocked, round-free}
 use Rattle.testing.proofs.blocked.blocked.Goals as goal
 
@@ -20,7 +21,8 @@ overflow_sub-qq c =
     let e = c.hide_entries-place in
     let h = c.requires.0 in
     let s = (e.ensures h c.requires.1 c.requires.2).1 c.if-q-r.false in
-    stopped-some h a.tints.now a.marks.now a.r a.start a.np e.new.heads e.new.up e.new.down e.result.q e.result.p e.result.qq s
+    let rival = row h a.tints.now a.marks.now a.r a.start a.np e.new.heads e.new.up e.new.down e.result.q e.result.p e.result.qq s.inner in
+    omega (arith, s.inner.from, rival.from, c.requires.1.tested.tidy.planned.from (h.plan.number e.result.p) rival.option)
 
 pub unhide_entries-requires : goal.unhide_entries-requires
 unhide_entries-requires c =

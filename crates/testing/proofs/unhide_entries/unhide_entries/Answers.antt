@@ -33,7 +33,7 @@ pub more-requires : goal.more-requires
 more-requires c =
     let g = c.requires.0 in
     let l = c.loop-k in
-    rw c.item_at-cc.ensures
+    rw (← c.item_at-cc.ensures) at
     (half-more g c.args.p l.k l.heads l.up l.down (l.invariant g c.requires.1) c.loop-k-test.true (λ e. c.if-cc-eq0.false (c.item_at-cc.ensures ∙ e)))
 
 pub relink-requires : goal.relink-requires
@@ -46,8 +46,9 @@ pub loop-k-preserved : goal.loop-k-preserved
 loop-k-preserved c =
     let l = c.loop-k in
     λ g m.
-    rw (c.more.ensures, c.relink.ensures.0, c.relink.ensures.1, c.item_at-cc.ensures)
-    (half_back g c.args.p l.k l.heads l.up l.down (l.invariant g m) c.loop-k-test.true (λ e. c.if-cc-eq0.false (c.item_at-cc.ensures ∙ e)))
+    rw (c.more.ensures, c.relink.ensures.0, c.relink.ensures.1)
+    (rw (← c.item_at-cc.ensures) at
+    (half_back g c.args.p l.k l.heads l.up l.down (l.invariant g m) c.loop-k-test.true (λ e. c.if-cc-eq0.false (c.item_at-cc.ensures ∙ e))))
 
 pub returns : goal.returns
 returns c =
