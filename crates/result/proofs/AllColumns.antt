@@ -6,7 +6,7 @@ use mathlib.Core.List.{List, [], ◌++◌, map, append-nil}
 use lib.Dec.{T, not_T}
 use lib.ListN.{length}
 use lib.IntN.{ℤ}
-use Rattle.rules.specs.Lists.{each, from, up_to, written}
+use Rattle.rules.specs.Lists.{each, from, up_to}
 use Rattle.rules.specs.Result.{Numbered, kept_options, results_of}
 use Rattle.theorems.proofs.Words.Tests.{T_and}
 use Rattle.theorems.proofs.Words.Lists.{keep-none, each_append, from-split}
