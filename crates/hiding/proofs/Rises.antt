@@ -39,6 +39,6 @@ rising-fresh g [] t r = tt
 rising-fresh g (x ∷ xs) t r = (r.0, rising-fresh (cut_one g x) xs (tidy-cut g t x r.0) (rising-next g t x xs r))
 
 pub rising-apart : (g : Ground) (xs ys : List ℕ) → Rising g (xs ++ ys) → {y : ℕ} → In y xs → In y ys → ⊥
-rising-apart g [] ys r {y = y} x3 n = elim x3 [ ]
+rising-apart g [] ys r i n = elim i [ ]
 rising-apart g (x ∷ xs) ys r {y} (here e) n = omega (arith, r.1 y (In-append-r xs n) (ap g.plan.col e), e)
 rising-apart g (x ∷ xs) ys r (next m) n = rising-apart g xs ys r.2 m n

@@ -41,6 +41,7 @@ pub fn shorten(heads: &mut [i32], up: &mut [u32], down: &mut [u32], r: usize)
 }
 
 // Shortens r's option where it holds p, else deletes its other entries: the first primary column emptied, or 0.
+#[tactic(auto, unfolding(crate::specs::Removing::shortened))]
 pub fn delete_or_shorten(
     heads: &mut [i32],
     up: &mut [u32],
