@@ -1,18 +1,17 @@
 -- The tests of a column, one after another: at each place of the walk, what is found above it. Assumes nothing.
-use Prim.Native.Nat.{ℕ, ◌+◌, ◌-◌, ◌<◌, ◌≤◌}
+use Prim.Native.Nat.{ℕ, ◌+◌, ◌<◌, ◌≤◌}
 use native.Mathlib.Omega.{arith}
-use mathlib.Core.Path.{◌≡◌, refl, ◌∙◌, ap, sym, subst}
-use mathlib.Core.List.{List, []}
+use mathlib.Core.Path.{refl, sym, subst}
+use mathlib.Core.List.{List}
 use lib.ListN.{length}
 use lib.IntN.{ℤ}
 use Rattle.links.specs.Column.{at}
-use Rattle.links.specs.Plan.{Plan, start, Header, Planned}
+use Rattle.links.specs.Plan.{start, Header}
 use Rattle.links.specs.Ground.{Ground, Tidy}
 use Rattle.links.proofs.Plans.{header-before}
 use Rattle.links.proofs.Descending.{Stand, reach, reach-past, reach-at, left, stand-in, stand-next, step_less}
-use Rattle.showing.specs.Showing.{condemned_at}
 use Rattle.showing.proofs.HiddenStates.{hiding, hiding-tidy}
-use Rattle.condemning.specs.Search.{down_to, Chain, Search, Hiding, Tried, Trying}
+use Rattle.condemning.specs.Search.{Chain, Search, Hiding, Tried, Trying}
 use Rattle.condemning.proofs.Searching.{search-stand, next-same, first-none, stand-column}
 
 -- The walk is at r, a node of the column or its header again, and the options above are tested.

@@ -1,10 +1,9 @@
 -- Marks stay known when nodes leave and entries are shortened, as long as the entries of an item that is still in some column keep their heads.
 -- Assumes nothing.
 use Prim.Native.Nat.{ℕ}
-use mathlib.Core.Path.{◌≡◌, refl, ◌∙◌, ap, sym, subst}
+use mathlib.Core.Path.{◌≡◌, ◌∙◌, sym, subst}
 use mathlib.Core.Bool.{Bool, true}
 use mathlib.Core.List.{List}
-use lib.IntN.{ℤ}
 use Rattle.links.specs.Head.{head}
 use Rattle.links.specs.Column.{at}
 use Rattle.links.specs.Plan.{Plan, EntryOf}

@@ -1,21 +1,20 @@
 -- Marking the items of an option, a lemma for each step of the walk. Assumes nothing.
-use Prim.Native.Nat.{ℕ, zero, suc, ◌+◌, ◌-◌, ◌<◌, ◌≤◌}
+use Prim.Native.Nat.{ℕ, ◌+◌, ◌<◌, ◌≤◌}
 use native.Mathlib.Omega.{arith}
-use mathlib.Core.Path.{◌≡◌, refl, ◌∙◌, ap, sym, subst}
-use mathlib.Core.Logic.{◌⊎◌, inl, inr, ⊎_elim, ◌≢◌}
-use mathlib.Core.Bool.{Bool, true, false, not, false≢true, true≢false}
-use mathlib.Core.List.{List, [], ◌∷◌}
-use lib.Dec.{T, ltb, lt→ltb, T_not}
+use mathlib.Core.Path.{◌≡◌, ◌∙◌, ap, sym, subst}
+use mathlib.Core.Logic.{⊎_elim, ◌≢◌}
+use mathlib.Core.Bool.{Bool, true, false, false≢true, true≢false}
+use mathlib.Core.List.{List}
+use lib.Dec.{T, lt→ltb, T_not}
 use lib.ListN.{length, set, length-set}
 use lib.Seq.{get_or-set_same, get_or-set_other}
 use lib.IntN.{ℤ, pos, negsuc}
 use Rattle.rules.specs.Lists.{any}
-use Rattle.theorems.proofs.Words.Tests.{T_true}
 use Rattle.theorems.proofs.Words.Lists.{any←}
 use Rattle.links.specs.Head.{item_of, below_zero, head}
 use Rattle.links.specs.Column.{at}
-use Rattle.links.specs.Plan.{Plan, start, lo, hi, EntryOf, Header, Planned}
-use Rattle.links.specs.Ground.{Ground, Short, Edge, Tidy}
+use Rattle.links.specs.Plan.{lo, hi, EntryOf, Planned}
+use Rattle.links.specs.Ground.{Ground, Edge, Tidy}
 use Rattle.links.specs.Row.{span, full, first_live}
 use Rattle.links.specs.Taking.{Marked}
 use Rattle.links.proofs.Stores.{same?, less?}

@@ -1,35 +1,34 @@
 -- Testing the options of a column while its item is hidden, a lemma for each step. Assumes nothing.
-use Prim.Native.Nat.{ℕ, zero, suc, ◌+◌, ◌-◌, ◌<◌, ◌≤◌}
+use Prim.Native.Nat.{ℕ, ◌+◌, ◌-◌, ◌<◌, ◌≤◌}
 use native.Mathlib.Omega.{arith}
 use mathlib.Core.Path.{◌≡◌, refl, ◌∙◌, ap, sym, subst}
-use mathlib.Core.Logic.{◌⊎◌, inl, inr, ⊎_elim, ◌≢◌}
-use mathlib.Core.Bool.{Bool, true, false, not, ◌&&◌, and-false, false≢true}
-use mathlib.Core.List.{List, [], ◌∷◌, Memᴰ as In}
+use mathlib.Core.Logic.{⊎_elim, ◌≢◌}
+use mathlib.Core.Bool.{Bool, true, false, not, ◌&&◌}
+use mathlib.Core.List.{List, [], Memᴰ as In}
 use borrow.Author.Tests.{eq-eqb, ne_eqb}
-use lib.Dec.{T, leb, eqb, eqb→eq}
-use lib.ListN.{length, set}
-use lib.IntN.{ℤ, pos}
-use Rattle.rules.specs.Lists.{any}
+use lib.Dec.{T, leb, eqb}
+use lib.ListN.{set}
+use lib.IntN.{ℤ}
 use Rattle.theorems.proofs.Words.Tests.{T_true, T_and}
 use Rattle.theorems.proofs.Words.Lists.{any-cong}
 use Rattle.links.specs.Head.{item_of, head}
 use Rattle.links.specs.Column.{at}
-use Rattle.links.specs.Plan.{Plan, start, lo, hi, EntryOf, Header, Planned}
-use Rattle.links.specs.Ground.{Ground, Tidy, Holds, taken}
+use Rattle.links.specs.Plan.{start, lo, EntryOf, Header, Planned}
+use Rattle.links.specs.Ground.{Ground, Holds, taken}
 use Rattle.links.specs.Row.{span, full, first_live}
-use Rattle.links.specs.Shown.{Ready, Tinted}
-use Rattle.links.specs.Taking.{in_column, hides, node_blocked, Tested, Marked}
+use Rattle.links.specs.Shown.{Ready}
+use Rattle.links.specs.Taking.{in_column, hides, node_blocked, Tested}
 use Rattle.links.proofs.Stores.{same?}
-use Rattle.links.proofs.Plans.{entry-from, entry_row, entry-till, entry-no-header, row-mate}
+use Rattle.links.proofs.Plans.{entry-no-header, row-mate}
 use Rattle.links.proofs.Spans.{In-span}
 use Rattle.links.proofs.Grounds.{on-taken, taken-head}
-use Rattle.links.proofs.Descending.{Stand, column→, column←, on-entry, reach, reach-past, reach-at, stand-header, stand-in, stand-next, step-gap, step-far, step_less, header-gap, left}
+use Rattle.links.proofs.Descending.{Stand, column→, column←, on-entry, reach, stand-header, stand-next, step-gap, step-far, header-gap}
 use Rattle.showing.specs.Showing.{full_before, condemned_at}
 use Rattle.showing.proofs.HiddenStates.{hiding, hiding-is, hides-fresh, hiding-tidy, hiding-own, hiding-full}
 use Rattle.showing.proofs.TestedNode.{tested-hidden}
 use Rattle.links.specs.Lead.{Led, Leads}
 use Rattle.condemning.specs.Marks.{Known, Marking}
-use Rattle.condemning.specs.Search.{down_to, Chain, Search, Hiding, Tried}
+use Rattle.condemning.specs.Search.{down_to, Chain, Tried}
 use Rattle.condemning.proofs.Chains.{down-yes, down-no, down-same, In-down, tinted-set, chain-push}
 use Rattle.condemning.proofs.Knowing.{known-pass}
 

@@ -1,5 +1,5 @@
 -- Deleting the options of the chain one after another, a lemma for each step: the first primary column emptied, and what is left. Assumes nothing.
-use Prim.Native.Nat.{ℕ, zero, suc, ◌+◌, ◌-◌, ◌<◌, ◌≤◌}
+use Prim.Native.Nat.{ℕ, zero, suc, ◌+◌, ◌-◌, ◌<◌}
 use native.Mathlib.Omega.{arith}
 use mathlib.Core.Path.{◌≡◌, refl, ◌∙◌, ap, sym, subst}
 use mathlib.Core.Logic.{◌⊎◌, inl, inr, ⊎_elim, ◌≢◌}
@@ -7,22 +7,20 @@ use mathlib.Core.Bool.{Bool, true, false, not, ◌&&◌, cond}
 use mathlib.Core.List.Memᴰ.{append_left as In-append-l}
 use mathlib.Core.List.Memᴰ.{append_right as In-append-r}
 use mathlib.Core.List.Memᴰ.{head as here}
-use mathlib.Core.List.{List, [], ◌∷◌, ◌++◌, map, append_assoc, append-nil, Memᴰ as In}
+use mathlib.Core.List.{List, [], ◌∷◌, ◌++◌, append_assoc, append-nil, Memᴰ as In}
 use lib.Dec.{T, ltb, eqb}
 use lib.ListN.{length}
 use lib.IntN.{ℤ}
-use Rattle.rules.specs.Lists.{any, each}
-use Rattle.rules.specs.Promises.{distinct}
-use Rattle.theorems.proofs.Words.Tests.{T_true, T_false, T_and}
+use Rattle.theorems.proofs.Words.Tests.{T_true, T_and}
 use Rattle.theorems.proofs.Words.Lists.{any-cong, each_append}
-use Rattle.links.specs.Head.{item_of, head}
+use Rattle.links.specs.Head.{item_of}
 use Rattle.links.specs.Column.{at}
-use Rattle.links.specs.Plan.{Plan, lo, hi, EntryOf, Planned}
+use Rattle.links.specs.Plan.{lo, EntryOf, Planned}
 use Rattle.links.specs.Ground.{Ground, Tidy, Within, Holds, Fresh, taken}
 use Rattle.links.specs.Row.{span, full, others, walked, first_live}
-use Rattle.links.specs.Shown.{Ready, Tinted}
+use Rattle.links.specs.Shown.{Ready}
 use Rattle.links.specs.Taking.{in_column, hides, node_blocked, first_out}
-use Rattle.links.proofs.Plans.{entry-from, entry_row, entry-till, entry-no-header, row-mate}
+use Rattle.links.proofs.Plans.{entry-from, entry-no-header, row-mate}
 use Rattle.links.proofs.Spans.{In-span}
 use Rattle.links.proofs.Grounds.{taken-append, taken-tidy, taken-head, fresh-within, fresh-front, fresh-rest}
 use Rattle.links.proofs.Rows.{walked-taken}
@@ -34,7 +32,6 @@ use Rattle.removing.specs.Deleting.{Deleting, Deleted}
 use Rattle.removing.proofs.Emptying.{first_some, first-none}
 use Rattle.links.specs.Lead.{Led, Leads}
 use Rattle.condemning.specs.Search.{down_to, Chain, Sparing}
-use Rattle.condemning.proofs.Chains.{In-down}
 
 -- the list falls: it is empty, or it has a first element, and behind it those below that
 pub down-front : (f : ℕ → Bool) (k : ℕ) → (down_to f k ≡ []) ⊎ ((x : ℕ) × (x < k) × (f x ≡ true) × (down_to f k ≡ x ∷ down_to f x))

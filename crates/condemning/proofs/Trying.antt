@@ -1,17 +1,17 @@
 -- The test of one option, as the code goes: what each call asks, and what each answer leaves. Assumes nothing.
-use Prim.Native.Nat.{ℕ, zero, suc, ◌+◌, ◌-◌, ◌<◌, ◌≤◌}
+use Prim.Native.Nat.{ℕ, ◌+◌, ◌<◌}
 use native.Mathlib.Omega.{arith}
-use mathlib.Core.Path.{◌≡◌, refl, ◌∙◌, ap, sym, subst}
-use mathlib.Core.Logic.{◌⊎◌, inl, inr, ⊎_elim, ◌≢◌}
-use mathlib.Core.Bool.{Bool, true, false}
-use mathlib.Core.List.{List, [], ◌∷◌}
-use borrow.Author.Tests.{eqb-true, eqb-false, eq-eqb, ne_eqb}
+use mathlib.Core.Path.{◌≡◌, ◌∙◌, sym, subst}
+use mathlib.Core.Logic.{⊎_elim, ◌≢◌}
+use mathlib.Core.Bool.{true, false}
+use mathlib.Core.List.{List}
+use borrow.Author.Tests.{eq-eqb, ne_eqb}
 use lib.Dec.{eqb}
 use lib.ListN.{length, set}
 use lib.IntN.{ℤ}
 use Rattle.links.specs.Head.{item_of, head}
 use Rattle.links.specs.Column.{at}
-use Rattle.links.specs.Plan.{Plan, start, lo, EntryOf, Planned}
+use Rattle.links.specs.Plan.{EntryOf}
 use Rattle.links.specs.Ground.{Ground, Holds}
 use Rattle.links.specs.Row.{first_live}
 use Rattle.links.specs.Taking.{node_blocked, Marked}
@@ -22,7 +22,7 @@ use Rattle.showing.proofs.HiddenStates.{hiding, hiding-tidy}
 use Rattle.testing.specs.Forward.{Test}
 use Rattle.links.specs.Lead.{Led, Leads}
 use Rattle.condemning.specs.Marks.{Known, Marking}
-use Rattle.condemning.specs.Search.{down_to, Chain, Tried, Trying}
+use Rattle.condemning.specs.Search.{Chain, Tried, Trying}
 use Rattle.condemning.proofs.Searching.{hidden-known, hidden-holds, search-led, search-marking, search-tested, led-first, led-before, coloured-not, later-not, tested-is, tried-not, tried-yes}
 use Rattle.condemning.proofs.Sparing.{down-front}
 
