@@ -3,7 +3,7 @@ ghost use Rattle.std.specs.Prelude.{◌≡◌, false, ℕ};
 ghost use Rattle.std.proofs.Math.Option.{none};
 ghost use Rattle.rules.specs.Problem.{figures, problem_of};
 ghost use Rattle.rules.specs.Checks.{refusal_of};
-ghost use Rattle.rules.specs.Rounds.{reduce as reduceOf};
+ghost use Rattle.rules.specs.Rounds.{reduce as reduce_of};
 ghost use Rattle.rules.specs.Outcome.{concluded};
 ghost use Rattle.rules.specs.Paper.{paper};
 ghost use Rattle.engine.specs.Call.{result_lists, room_lists, handed, outcome};
@@ -36,7 +36,7 @@ pub fn reduce(
     requires { refusal_of figures false (handed np ns cap items.now colours.now ends.now (room_lists heads.old up.old down.old tints.old marks.old) (result_lists kept.old out_ends.old numbers.old out_items.old out_colours.old)) ≡ none }
     ensures { outcome (paper result) (room_lists heads.new up.new down.new tints.new marks.new) (result_lists kept.new out_ends.new numbers.new out_items.new out_colours.new)
         ≡ concluded (handed np ns cap items.now colours.now ends.now (room_lists heads.old up.old down.old tints.old marks.old) (result_lists kept.old out_ends.old numbers.old out_items.old out_colours.old))
-        (reduceOf (problem_of np ns items.now colours.now ends.now) cap) }
+        (reduce_of (problem_of np ns items.now colours.now ends.now) cap) }
 {
     let p = np as usize;
     let n = p + ns as usize;

@@ -1,7 +1,7 @@
 // What the rounds find of a problem.
 ghost use Rattle.std.specs.Prelude.{◌≡◌, ℕ};
 ghost use Rattle.rules.specs.Problem.{Figures, problem_of};
-ghost use Rattle.rules.specs.Rounds.{reduce as reduceOf};
+ghost use Rattle.rules.specs.Rounds.{reduce as reduce_of};
 ghost use Rattle.building.specs.Layout.{plan_of};
 ghost use Rattle.building.specs.Build.{Buildable};
 ghost use Rattle.preproc.specs.Standing.{Ended};
@@ -26,7 +26,7 @@ pub fn search(
     requires { (f : Figures) × (ns : ℕ) × Buildable f np ns n items.now colours.now ends.now heads.old up.old down.old tints.old marks.old }
     ensures { (f : Figures) (ns : ℕ)
         → Buildable f np ns n items.now colours.now ends.now heads.old up.old down.old tints.old marks.old
-        → Ended (plan_of (problem_of np ns items.now colours.now ends.now)) (reduceOf (problem_of np ns items.now colours.now ends.now) cap)
+        → Ended (plan_of (problem_of np ns items.now colours.now ends.now)) (reduce_of (problem_of np ns items.now colours.now ends.now) cap)
         result.item result.cause result.rounds result.settled heads.new up.new down.new tints.new marks.new }
 {
     init_links(

@@ -1,11 +1,11 @@
 -- The lowest primary item that is in no option, by the lengths of the columns. Assumes nothing.
-use Prim.Native.Nat.{ℕ, zero, suc, ◌+◌, ◌-◌, ◌<◌, ◌≤◌}
+use Prim.Native.Nat.{ℕ, zero, suc, ◌+◌, ◌<◌, ◌≤◌}
 use native.Mathlib.Omega.{arith}
-use mathlib.Core.Path.{◌≡◌, refl, ◌∙◌, ap, sym, subst}
-use mathlib.Core.Logic.{◌⊎◌, inl, inr, ⊎_elim, ◌≢◌}
+use mathlib.Core.Path.{◌≡◌, ◌∙◌, ap, sym, subst}
+use mathlib.Core.Logic.{⊎_elim, ◌≢◌}
 use mathlib.Core.Bool.{Bool, true, false, not, cond}
-use mathlib.Core.List.{List, [], ◌∷◌}
-use mathlib.Core.Option.{Option, none, some}
+use mathlib.Core.List.{List, ◌∷◌}
+use mathlib.Core.Option.{some}
 use borrow.Author.Tests.{lt-ltb, le-ltb}
 use lib.Dec.{T, ltb}
 use lib.ListN.{length}
@@ -17,7 +17,6 @@ use Rattle.theorems.proofs.Words.Lists.{In-up_to}
 use Rattle.theorems.proofs.Words.Choices.{none-first_that}
 use Rattle.links.specs.Head.{item_of, head}
 use Rattle.links.specs.Ground.{Ground}
-use Rattle.links.proofs.Plans.{header-before}
 use Rattle.links.proofs.Stores.{same?}
 use Rattle.showing.specs.Showing.{state_of, column_or}
 use Rattle.showing.proofs.Results.{live_test}

@@ -1,22 +1,21 @@
 -- A round and the rounds, as the code goes: what is left to do at each place is what the rules have left. Assumes nothing.
-use Prim.Native.Nat.{ℕ, zero, suc, ◌+◌, ◌-◌, ◌<◌, ◌≤◌}
+use Prim.Native.Nat.{ℕ, suc, ◌+◌, ◌-◌, ◌<◌, ◌≤◌}
 use native.Mathlib.Omega.{arith}
 use native.Mathlib.Numerals.{add-one}
 use mathlib.Core.Path.{◌≡◌, refl, ◌∙◌, ap, sym, subst}
 use mathlib.Core.Logic.{◌≢◌}
 use mathlib.Core.Bool.{Bool, true, false, ◌||◌}
-use mathlib.Core.List.{List, [], ◌∷◌}
+use mathlib.Core.List.{List, ◌∷◌}
 use borrow.Author.Tests.{lt-ltb, le-ltb}
 use lib.Dec.{ltb}
 use lib.ListN.{length}
 use lib.IntN.{ℤ}
-use Rattle.rules.specs.Lists.{from, up_to}
-use Rattle.rules.specs.State.{State, Step, went, emptied, in_live}
-use Rattle.rules.specs.Rounds.{Finding, reduced, infeasible, item_step, item_steps, round, after_round, rounds}
+use Rattle.rules.specs.Lists.{from}
+use Rattle.rules.specs.State.{State, Step, went, in_live}
+use Rattle.rules.specs.Rounds.{Finding, item_step, item_steps, round, after_round, rounds}
 use Rattle.links.specs.Head.{item_of, head}
-use Rattle.links.specs.Plan.{Plan, start, Header}
+use Rattle.links.specs.Plan.{Plan, Header}
 use Rattle.links.specs.Ground.{Ground}
-use Rattle.links.specs.Taking.{length_of}
 use Rattle.links.proofs.Plans.{header-before}
 use Rattle.showing.specs.Showing.{state_of}
 use Rattle.showing.proofs.Results.{live_test}

@@ -1,26 +1,21 @@
 -- An item's step, as the code goes: what each call asks, and that the answers are those of the rules. Assumes nothing.
-use Prim.Native.Nat.{ℕ, zero, suc, ◌+◌, ◌-◌, ◌<◌, ◌≤◌}
+use Prim.Native.Nat.{ℕ, suc, ◌+◌, ◌-◌, ◌<◌}
 use native.Mathlib.Omega.{arith}
 use mathlib.Core.Path.{◌≡◌, refl, ◌∙◌, ap, sym, subst}
-use mathlib.Core.Logic.{◌⊎◌, inl, inr, ⊎_elim, ◌≢◌}
-use mathlib.Core.Bool.{Bool, true, false, not, ◌&&◌, ◌||◌}
+use mathlib.Core.Logic.{⊎_elim, ◌≢◌}
+use mathlib.Core.Bool.{Bool, true, false}
 use mathlib.Core.List.{List, [], ◌∷◌, map}
-use mathlib.Core.Option.{Option, none, some}
-use borrow.Author.Tests.{eq-eqb, ne_eqb, lt-ltb, le-ltb, ltb-true}
-use lib.Dec.{T, ltb, eqb}
+use borrow.Author.Tests.{lt-ltb}
+use lib.Dec.{T, ltb}
 use lib.ListN.{length}
 use lib.IntN.{ℤ}
-use Rattle.rules.specs.State.{State, Step, went, emptied}
-use Rattle.rules.specs.Redundant.{chosen}
+use Rattle.rules.specs.State.{went}
 use Rattle.rules.specs.Rounds.{item_step}
 use Rattle.rules.specs.Promises.{distinct}
-use Rattle.theorems.proofs.Words.Tests.{T_true, T_and, T-or}
 use Rattle.theorems.proofs.Steps.Redundancy.{chosen→}
-use Rattle.links.specs.Head.{head}
-use Rattle.links.specs.Column.{at}
-use Rattle.links.specs.Plan.{Plan, start, lo, EntryOf, Header, Planned}
-use Rattle.links.specs.Ground.{Ground, Tidy, Holds, Fresh, taken}
-use Rattle.links.specs.Shown.{Ready, Tinted, shown}
+use Rattle.links.specs.Plan.{EntryOf, Header, Planned}
+use Rattle.links.specs.Ground.{Ground, Holds, Fresh, taken}
+use Rattle.links.specs.Shown.{Ready, shown}
 use Rattle.links.specs.Taking.{last_out, first_out, hides, leaves, off_column, mask_without}
 use Rattle.links.proofs.Plans.{entry-from, entry-no-header}
 use Rattle.links.proofs.Grounds.{on-taken, taken-head}
@@ -38,7 +33,7 @@ use Rattle.condemning.specs.Search.{down_to, Chain, Search, Hiding, Tried, Spari
 use Rattle.condemning.proofs.Chains.{down-reverse}
 use Rattle.condemning.proofs.Knowing.{known-pass}
 use Rattle.condemning.proofs.Sparing.{down-front}
-use Rattle.preproc.specs.Standing.{Standing, Figured, Holding, Stepped}
+use Rattle.preproc.specs.Standing.{Standing, Figured, Stepped}
 
 -- lists that are others' are held as well
 pub held_same : {h : Ground} {heads heads' : List ℤ} {up up' down down' : List ℕ} → Holds h heads up down → heads' ≡ heads → up' ≡ up → down' ≡ down → Holds h heads' up' down'

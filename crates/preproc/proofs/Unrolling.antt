@@ -1,11 +1,11 @@
 -- A round and the rounds, a step at a time: what is left to do after an item, and after a round. Assumes nothing.
 use Prim.Native.Nat.{ℕ, zero, suc}
-use mathlib.Core.Path.{◌≡◌, refl, ◌∙◌, ap, sym}
+use mathlib.Core.Path.{◌≡◌, refl, ◌∙◌, ap}
 use mathlib.Core.Bool.{Bool, true, false, ◌||◌, or-false}
 use mathlib.Core.List.{List, [], ◌∷◌}
 use Rattle.rules.specs.Lists.{up_to}
 use Rattle.rules.specs.State.{State, Step, went, emptied, in_live}
-use Rattle.rules.specs.Rounds.{Finding, reduced, infeasible, item_step, and_then, item_steps, round, after_round, rounds}
+use Rattle.rules.specs.Rounds.{reduced, item_step, and_then, item_steps, round, after_round, rounds}
 
 -- an item that is in no live option is passed over
 pub steps-over : (np c : ℕ) (cs : List ℕ) (s : State) (removed : Bool) → in_live c s ≡ false → item_steps np (c ∷ cs) s removed ≡ item_steps np cs s removed

@@ -1,6 +1,6 @@
 -- What the lists hold between an item's step and the next, and what a step, a round and the rounds come to, in the words of the rules.
 -- Assumes nothing.
-use Rattle.std.specs.Prelude.{ℕ, suc, ◌+◌, ◌-◌, ◌≤◌, ◌≡◌, Bool, true, false, List, ℤ}
+use Rattle.std.specs.Prelude.{ℕ, ◌-◌, ◌≤◌, ◌≡◌, Bool, List, ℤ}
 use Rattle.rules.specs.State.{State, Step, went, emptied}
 use Rattle.rules.specs.Rounds.{Finding, reduced, infeasible}
 use Rattle.links.specs.Plan.{Plan, start}

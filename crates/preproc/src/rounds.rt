@@ -1,6 +1,6 @@
 // A round, and the rounds under a cap.
 ghost use Rattle.std.specs.Prelude.{◌≡◌, ◌||◌, ℕ};
-ghost use Rattle.rules.specs.Rounds.{uncovered as uncoveredIn, round as roundOf, rounds as roundsOf};
+ghost use Rattle.rules.specs.Rounds.{uncovered as uncovered_in, round as round_of, rounds as rounds_of};
 ghost use Rattle.links.specs.Ground.{Ground};
 ghost use Rattle.showing.specs.Showing.{state_of, column_or};
 ghost use Rattle.preproc.specs.Standing.{Standing, Figured, Looking, Stepped, Ended};
@@ -26,7 +26,7 @@ fn either(a: bool, b: bool) -> bool
 // The column of the lowest primary item that is in no option, or 0.
 pub fn uncovered(heads: &[i32], np: usize) -> usize
     requires { (g : Ground) × Looking g np heads.now }
-    ensures { (g : Ground) → Looking g np heads.now → result ≡ column_or 0 (uncoveredIn np (state_of g)) }
+    ensures { (g : Ground) → Looking g np heads.now → result ≡ column_or 0 (uncovered_in np (state_of g)) }
 {
     let mut i = 0;
     while i < np {
@@ -51,7 +51,7 @@ pub fn round(
 ) -> Step
     requires { (g : Ground) × Standing g heads.old up.old down.old tints.old marks.old × Figured g.plan start np × (n ≡ g.plan.n) }
     ensures { (g : Ground) → Standing g heads.old up.old down.old tints.old marks.old → Figured g.plan start np → n ≡ g.plan.n
-        → Stepped g.plan (roundOf np n (state_of g)) result.item result.cause result.removed heads.new up.new down.new tints.new marks.new }
+        → Stepped g.plan (round_of np n (state_of g)) result.item result.cause result.removed heads.new up.new down.new tints.new marks.new }
 {
     let mut removed = false;
     let mut i = 0;
@@ -97,7 +97,7 @@ pub fn rounds(
 ) -> Found
     requires { (g : Ground) × Standing g heads.old up.old down.old tints.old marks.old × Figured g.plan start np × (n ≡ g.plan.n) }
     ensures { (g : Ground) → Standing g heads.old up.old down.old tints.old marks.old → Figured g.plan start np → n ≡ g.plan.n
-        → Ended g.plan (roundsOf np n cap 0 (state_of g)) result.item result.cause result.rounds result.settled heads.new up.new down.new tints.new marks.new }
+        → Ended g.plan (rounds_of np n cap 0 (state_of g)) result.item result.cause result.rounds result.settled heads.new up.new down.new tints.new marks.new }
 {
     let mut r: u32 = 0;
     while r < cap {

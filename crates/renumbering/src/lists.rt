@@ -1,7 +1,7 @@
 // The renumberings over lists of numbers.
 ghost use Rattle.std.specs.Prelude.{◌≡◌, map, ◌≤◌, T, length};
 ghost use Rattle.rules.specs.Lists.{mem, written};
-ghost use Rattle.rules.specs.Renumber.{sd as sdOf, renumber_refusal, renumbered_unless, compact_outcome, crate_outcome};
+ghost use Rattle.rules.specs.Renumber.{sd as sd_of, renumber_refusal, renumbered_unless, compact_outcome, crate_outcome};
 ghost use Rattle.renumbering.specs.Outcome.{refusal, outcome};
 ghost use Rattle.renumbering.specs.Parts.{Sound, AllKept, numbering};
 
@@ -18,7 +18,7 @@ pub enum Way {
 // By how much the crate's numbers of secondaries are less (`sd` in p.rs `get_options`): first kept secondary minus last kept primary minus 1.
 fn sd(kept: &[u32], primaries: usize) -> u32
     requires { Sound kept.now primaries }
-    ensures { result ≡ sdOf kept.now primaries }
+    ensures { result ≡ sd_of kept.now primaries }
 {
     if primaries < kept.len() {
         kept[primaries] - kept[primaries - 1] - 1
@@ -29,7 +29,7 @@ fn sd(kept: &[u32], primaries: usize) -> u32
 
 // The number that a kept item gets. A secondary is at least the first one kept, which is above sd.
 fn item_number(way: Way, kept: &[u32], primaries: usize, sd: u32, i: u32) -> u32
-    requires { Sound kept.now primaries × T (mem i kept.now) × (sd ≡ sdOf kept.now primaries) }
+    requires { Sound kept.now primaries × T (mem i kept.now) × (sd ≡ sd_of kept.now primaries) }
     ensures { result ≡ numbering way kept.now primaries i }
 {
     let p = find(kept, i);

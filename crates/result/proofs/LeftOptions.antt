@@ -21,7 +21,7 @@ use Rattle.links.specs.Taking.{in_column}
 use Rattle.links.proofs.Plans.{entry-from}
 use Rattle.links.proofs.Spans.{span_none}
 use Rattle.links.proofs.Descending.{on-entry}
-use Rattle.showing.specs.Showing.{option_from as optionRound}
+use Rattle.showing.specs.Showing.{option_from as option_round}
 use Rattle.showing.proofs.InOrder.{nodes_in, In-nodes, by_rows}
 use Rattle.showing.proofs.Around.{span-split, full-on}
 use Rattle.showing.proofs.Columns.{column→}
@@ -39,7 +39,7 @@ module _ (g : Ground) (R : Ready g) where
     lead→ y u = let w = T_and (in_column g c y) (first_live g y) u in let v = column→ g R.tidy c y w.0 in (v.0, v.1, w.1)
 
     -- an option from its first live entry on is that entry, and its others
-    option-whole : (y : ℕ) → T (lead_at g c y) → option_from g y ≡ optionRound g y
+    option-whole : (y : ℕ) → T (lead_at g c y) → option_from g y ≡ option_round g y
     unfolding option_from others
     option-whole y u =
         let w = lead→ y u in
@@ -67,16 +67,16 @@ module _ (g : Ground) (R : Ready g) where
         rows : (a : ℕ) → a ≤ start g.plan → keep (lead_at g c) (span a g.plan.N) ≡ each (λ k. keep (lead_at g c) (nodes_in g.plan k)) (up_to g.plan.M)
         rows = by_rows g.plan W (lead_at g c) (λ y e. (lead→ y (true-T e)).0)
 
-    column-kept : column_options g c ≡ map (optionRound g) (keep (lead_at g c) (up_to g.plan.N))
+    column-kept : column_options g c ≡ map (option_round g) (keep (lead_at g c) (up_to g.plan.N))
     unfolding column_to
     column-kept =
-        map-cong (option_from g) (optionRound g) (keep (lead_at g c) (span (start g.plan) g.plan.N)) (λ y m. option-whole y (keep→ (lead_at g c) (span (start g.plan) g.plan.N) m).1)
-        ∙ ap (map (optionRound g)) leads-same
+        map-cong (option_from g) (option_round g) (keep (lead_at g c) (span (start g.plan) g.plan.N)) (λ y m. option-whole y (keep→ (lead_at g c) (span (start g.plan) g.plan.N) m).1)
+        ∙ ap (map (option_round g)) leads-same
 
   pub options-kept : (n : ℕ) → options_to g n ≡ kept_options n (shown g.plan g.on)
   unfolding options_to
   options-kept n =
-      each-cong (λ i. column_options g (i + 1)) (λ i. map (optionRound g) (keep (lead_at g (i + 1)) (up_to g.plan.N))) (up_to n) (λ i m. column-kept (i + 1))
+      each-cong (λ i. column_options g (i + 1)) (λ i. map (option_round g) (keep (lead_at g (i + 1)) (up_to g.plan.N))) (up_to n) (λ i m. column-kept (i + 1))
       ∙ sym (kept-options g R n)
 
   -- No more entries are shown than there are nodes.
