@@ -1,20 +1,19 @@
 -- The whole outcome, from what the parts of the call ensure. Assumes nothing.
-use Prim.Native.Nat.{ℕ, ◌+◌, ◌-◌, ◌<◌, ◌≤◌}
+use Prim.Native.Nat.{ℕ, ◌+◌, ◌<◌, ◌≤◌}
 use native.Mathlib.Omega.{arith}
 use mathlib.Core.Path.{◌≡◌, refl, ◌∙◌, ap, sym, subst}
-use mathlib.Core.Logic.{◌≢◌}
-use mathlib.Core.Bool.{Bool, true, false, not, ◌||◌}
+use mathlib.Core.Bool.{Bool, false, not, ◌||◌}
 use mathlib.Core.List.{List}
 use mathlib.Core.Option.{none}
 use lib.Dec.{T, ltb, nltb→le}
 use lib.ListN.{length}
 use lib.IntN.{ℤ}
-use Rattle.rules.specs.Problem.{Problem, Figures, figures, problem_of}
+use Rattle.rules.specs.Problem.{Problem, figures, problem_of}
 use Rattle.rules.specs.Checks.{Room, Results, Handed, refusal_of, short_results}
 use Rattle.rules.specs.State.{State}
 use Rattle.rules.specs.Rounds.{Finding, reduced, infeasible, reduce}
-use Rattle.rules.specs.Result.{kept_options, results_of}
-use Rattle.rules.specs.Outcome.{Outcome, cleared, fronts, said_of, concluded}
+use Rattle.rules.specs.Result.{results_of}
+use Rattle.rules.specs.Outcome.{cleared, fronts, said_of, concluded}
 use Rattle.rules.specs.Paper.{Said, said_infeasible}
 use Rattle.theorems.proofs.Words.Tests.{T-nor}
 use Rattle.theorems.proofs.Checks.Accept.{Passed, passed}

@@ -1,7 +1,7 @@
 -- The result's lists and counts, put together to what the rules say of them. Assumes nothing.
-use Prim.Native.Nat.{ℕ, ◌+◌, ◌<◌, ◌≤◌}
+use Prim.Native.Nat.{ℕ, ◌<◌, ◌≤◌}
 use native.Mathlib.Omega.{arith}
-use mathlib.Core.Path.{◌≡◌, refl, ◌∙◌, ap, sym}
+use mathlib.Core.Path.{◌≡◌, refl}
 use mathlib.Core.Bool.{Bool}
 use mathlib.Core.List.{List}
 use lib.ListN.{length}
@@ -11,9 +11,8 @@ use Rattle.rules.specs.Checks.{Results}
 use Rattle.rules.specs.State.{State}
 use Rattle.rules.specs.Result.{kept_items, kept_options, primaries_of, secondaries_of, results_of}
 use Rattle.rules.specs.Outcome.{fronts, said_of}
-use Rattle.rules.specs.Paper.{Said, said_reduced}
+use Rattle.rules.specs.Paper.{said_reduced}
 use Rattle.links.specs.Ground.{Ground}
-use Rattle.showing.specs.Showing.{state_of}
 use Rattle.result.specs.Writing.{Out}
 use Rattle.result.specs.Reading.{Returned}
 use Rattle.engine.specs.Call.{result_lists}

@@ -1,19 +1,17 @@
 -- From the nodes as they are built to what the rounds find, in the words of the rules. Assumes nothing.
-use Prim.Native.Nat.{ℕ, ◌+◌, ◌-◌, ◌<◌, ◌≤◌}
+use Prim.Native.Nat.{ℕ, ◌+◌, ◌-◌, ◌≤◌}
 use native.Mathlib.Omega.{arith}
 use mathlib.Core.Path.{◌≡◌, refl, ◌∙◌, ap, sym, subst}
 use mathlib.Core.Logic.{◌≢◌}
-use mathlib.Core.Bool.{Bool, true, false}
+use mathlib.Core.Bool.{Bool, false}
 use mathlib.Core.List.{List}
 use mathlib.Core.Option.{Option, none, some}
 use lib.ListN.{length}
 use lib.IntN.{ℤ}
 use Rattle.rules.specs.Problem.{Problem, Figures, problem_of}
-use Rattle.rules.specs.Rounds.{Finding, reduced, infeasible, uncovered, unless_uncovered, rounds, reduce}
+use Rattle.rules.specs.Rounds.{Finding, infeasible, uncovered, unless_uncovered, rounds, reduce}
 use Rattle.rules.specs.Rounds.{start as starting}
-use Rattle.links.specs.Column.{at}
-use Rattle.links.specs.Plan.{Plan, EntryOf}
-use Rattle.links.specs.Ground.{Ground, Holds}
+use Rattle.links.specs.Ground.{Ground}
 use Rattle.condemning.specs.Marks.{Known}
 use Rattle.showing.specs.Showing.{state_of, column_or}
 use Rattle.building.specs.Layout.{plan_of}
