@@ -1,6 +1,6 @@
 -- The two ways out of the call: what a check refuses, and what the core answers. Assumes nothing.
 use Prim.Native.Nat.{ℕ}
-use mathlib.Core.Path.{◌≡◌, refl, sym, ap, ◌∙◌}
+use mathlib.Core.Path.{◌≡◌, refl, sym, ◌∙◌}
 use mathlib.Core.Bool.{false}
 use Rattle.rules.specs.Problem.{Figures, figures, problem_of}
 use Rattle.rules.specs.Checks.{Handed}

@@ -10,7 +10,7 @@ ghost use Rattle.engine.specs.Call.{result_lists, room_lists, handed, outcome};
 use checking::check::Check;
 use checking::refusal::refusal;
 use checking::room::Lengths;
-use engine::reduce::reduce as core;
+use engine::reduce::reduce as core_call;
 use rules::answer::Answer;
 use rules::problem::Problem;
 
@@ -64,7 +64,7 @@ pub fn reduce(
             place: place,
         };
     }
-    core(
+    core_call(
         np,
         ns,
         cap,

@@ -8,7 +8,7 @@ use lib.Dec.{T, eqb}
 use lib.ListN.{length, take}
 use Rattle.rules.specs.Lists.{written}
 use Rattle.rules.specs.Problem.{Figures}
-use Rattle.rules.specs.Checks.{Results, Handed}
+use Rattle.rules.specs.Checks.{Results}
 use Rattle.rules.specs.Sizing.{sizing}
 use Rattle.rules.specs.Paper.{said_refused}
 use Rattle.rules.specs.declared.problem.Problem.{Problem}

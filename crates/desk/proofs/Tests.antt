@@ -1,5 +1,5 @@
 -- Eight tests, as the program joins them and as the definition does. Assumes nothing.
-use mathlib.Core.Path.{◌≡◌, refl, ◌∙◌}
+use mathlib.Core.Path.{◌≡◌, refl}
 use mathlib.Core.Bool.{Bool, true, false, ◌||◌}
 
 regrouped : (a b r : Bool) → (a || b) || r ≡ a || (b || r)

@@ -1,8 +1,8 @@
 -- The desk's call over numbers: it checks, runs the core in room of its own, and hands back. Assumes nothing.
-use Prim.Native.Nat.{ℕ, ◌+◌, ◌*◌, ◌≤◌}
+use Prim.Native.Nat.{ℕ, ◌+◌, ◌≤◌}
 use native.Mathlib.Omega.{arith}
 use mathlib.Core.Path.{◌≡◌, refl, sym, ap, subst, ◌∙◌}
-use mathlib.Core.Bool.{Bool, true, false, not}
+use mathlib.Core.Bool.{Bool, false, not}
 use mathlib.Core.List.{List}
 use mathlib.Core.Option.{none, some}
 use lib.Dec.{T}
@@ -10,8 +10,8 @@ use lib.ListN.{length, take, drop, replicate, length-append, length-map}
 use lib.Seq.{take-append_seam}
 use borrow.Author.Tests.{le-ltb}
 use Rattle.rules.specs.Lists.{written}
-use Rattle.rules.specs.Problem.{Figures, figures, problem_of}
-use Rattle.rules.specs.Checks.{Refusal, Room, Results, Handed, short_room, short_results, refusal_of}
+use Rattle.rules.specs.Problem.{figures}
+use Rattle.rules.specs.Checks.{Refusal, Results, Handed, short_room, short_results, refusal_of}
 use Rattle.rules.specs.State.{State}
 use Rattle.rules.specs.Rounds.{Finding, reduced, infeasible}
 use Rattle.rules.specs.Result.{kept_items, kept_options, primaries_of, secondaries_of, results_of}
@@ -25,11 +25,10 @@ use Rattle.theorems.proofs.Answers.OneOutcome.{outcome-refused, outcome-found}
 use Rattle.theorems.proofs.Answers.Bounds.{Within, ReducedWithin, bounds}
 use Rattle.theorems.proofs.Answers.CompactFlat.{items-many, colours-many, ends-many}
 use Rattle.engine.specs.Call.{result_lists, handed, outcome}
-use Rattle.engine.proofs.Concluding.{Spacious, spacious}
+use Rattle.engine.proofs.Concluding.{spacious}
 use Rattle.checking.proofs.Grow.{figures-grow}
-use Rattle.words.specs.Bytes.{numbers_of}
 use Rattle.words.proofs.Counting.{fours-fit}
-use Rattle.desk.specs.Desk.{desk_figures, desk_room, numbers_in, bytes_in, bytes_after, Served, serving, served}
+use Rattle.desk.specs.Desk.{desk_figures, desk_room, numbers_in, bytes_in, bytes_after, serving, served}
 use Rattle.desk.specs.HandingBack.{firsts, handed_back, RoomFor, Handable}
 use Rattle.desk.proofs.Solving.{found_of}
 
