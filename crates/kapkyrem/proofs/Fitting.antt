@@ -1,5 +1,5 @@
 -- Every answer of a call fits its number: no field overflows into the next, at figures that leave the counts their room. Assumes nothing.
-use Prim.Native.Nat.{ℕ, ◌+◌, ◌-◌, ◌^◌, ◌≤◌, ◌<◌}
+use Prim.Native.Nat.{ℕ, ◌+◌, ◌-◌, ◌^◌, ◌<◌}
 use native.Mathlib.Omega.{arith}
 use mathlib.Core.Path.{◌≡◌, refl, sym, ap, subst, ◌∙◌}
 use mathlib.Core.Bool.{Bool, true, false, cond}
@@ -13,7 +13,7 @@ use Rattle.rules.specs.Paper.{paper}
 use Rattle.rules.specs.Outcome.{Outcome, said_of, outcome_at}
 use Rattle.rules.specs.declared.answer.Answer.{Answer}
 use Rattle.rules.specs.declared.answer.Answer.TheVariants.{Reduced, Infeasible, Refused}
-use Rattle.theorems.proofs.Checks.Accept.{Passed, passed}
+use Rattle.theorems.proofs.Checks.Accept.{passed}
 use Rattle.theorems.proofs.Checks.Paper.{paper-one}
 use Rattle.theorems.proofs.Answers.Bounds.{Within, bounds, number-range, place-below}
 use Rattle.theorems.proofs.Answers.Causes.{cause-range}

@@ -48,7 +48,9 @@ fn replay(t: &[u8]) {
 }
 
 fn main() {
-    let mut text = [0u8; 655360];
-    let n = io::read_full(0, &mut text);
+    // 655,360 bytes, in rows: a proof takes an array's elements one by one, and so many in one row are more than it can
+    let mut rows = [[0u8; 65536]; 10];
+    let text = rows.as_flattened_mut();
+    let n = io::read_full(0, &mut *text);
     replay(&text[..n]);
 }

@@ -1,6 +1,7 @@
 -- `condemning::condemn::test_at` meets its contract: an entry that is coloured or not the first is left alone, any other is tested, and a blocked one goes to
 -- the front of the chain. Assumes nothing.
-use Rattle.std.proofs.Common.{◌∙◌, sym}
+use Rattle.std.proofs.Common.{◌≡◌, ◌∙◌, sym, arith}
+use Rattle.links.specs.Head.{item_of, head}
 use Rattle.showing.proofs.HiddenStates.{hiding}
 use Rattle.condemning.proofs.Trying.{try-led, try-item, try-later, try-marking, try-test, try-no, try-yes, try-place, try_holds, try-small}
 use Rattle.condemning.proofs.condemn.test_at.Goals as goal
@@ -23,7 +24,7 @@ mark_items-requires c =
     let g = c.requires.0 in
     let i = c.requires.1 in
     let t = c.requires.2 in
-    (hiding g i, g.on, try-marking t (c.lead-q.ensures (hiding g i) (try-led t)) (sym c.link.ensures ∙ c.if-link-ne0.false) (sym c.item_at.ensures ∙ c.if-item_at-ne0.false))
+    (hiding g i, g.on, try-marking t (c.lead-q.ensures (hiding g i) (try-led t)) (sym c.link.ensures ∙ c.if-link-ne0.false) (omega arith))
 
 pub blocked-requires : goal.blocked-requires
 blocked-requires c =
@@ -32,7 +33,7 @@ blocked-requires c =
     let t = c.requires.2 in
     let l = c.lead-q.ensures (hiding g i) (try-led t) in
     let plain = sym c.link.ensures ∙ c.if-link-ne0.false in
-    let first = sym c.item_at.ensures ∙ c.if-item_at-ne0.false in
+    let first : item_of (head c.args.heads.now c.lead-q.result) ≡ 0 = omega arith in
     let m = c.mark_items.ensures (hiding g i) g.on (try-marking t l plain first) in
     (hiding g i, try-test t l plain first m.0 m.1, try_holds t)
 
@@ -48,7 +49,7 @@ returns-then-blocked-clause-found c =
     λ g i t.
     let l = c.lead-q.ensures (hiding g i) (try-led t) in
     let plain = sym c.link.ensures ∙ c.if-link-ne0.false in
-    let first = sym c.item_at.ensures ∙ c.if-item_at-ne0.false in
+    let first : item_of (head c.args.heads.now c.lead-q.result) ≡ 0 = omega arith in
     let m = c.mark_items.ensures (hiding g i) g.on (try-marking t l plain first) in
     rw c.put_link.ensures (try-yes t l plain first m.0 (sym (c.blocked.ensures.answer (hiding g i) (try-test t l plain first m.0 m.1) (try_holds t)) ∙ c.if-blocked.true))
 
@@ -57,6 +58,6 @@ returns-clause-found c =
     λ g i t.
     let l = c.lead-q.ensures (hiding g i) (try-led t) in
     let plain = sym c.link.ensures ∙ c.if-link-ne0.false in
-    let first = sym c.item_at.ensures ∙ c.if-item_at-ne0.false in
+    let first : item_of (head c.args.heads.now c.lead-q.result) ≡ 0 = omega arith in
     let m = c.mark_items.ensures (hiding g i) g.on (try-marking t l plain first) in
     try-no t l plain first m.0 (sym (c.blocked.ensures.answer (hiding g i) (try-test t l plain first m.0 m.1) (try_holds t)) ∙ c.if-blocked.false)

@@ -1,5 +1,6 @@
 -- `hiding::away::hide` meets its contract: at each place of the walk the lists are without the options hidden so far. Assumes nothing.
-use Rattle.std.proofs.Common.{◌+◌, length, arith}
+use Rattle.std.proofs.Common.{◌≡◌, ◌+◌, length, arith}
+use Rattle.links.specs.Column.{at}
 use Rattle.links.specs.Ground.{Ground, taken, Holds}
 use Rattle.links.specs.Taking.{gather_to, hidden}
 use Rattle.hiding.specs.Hiding.{Column, Taken}
@@ -17,9 +18,9 @@ dealt c g w k =
     let h = taken g (gather_to (hidden g c.args.c) g c.loop-rr.rr) in
     elim c.if-tints-rr-eq0.branch [
       | then-tints-rr-eq0 v ↦
-          let z = v.if-tints-rr-eq0.true in
+          let z : at c.args.tints.now c.loop-rr.rr ≡ 0 = omega arith in
           rw (v.heads-is, v.up-is, v.down-is, v.stack-is) (hide w m.stand d m z (v.hide_option-stack.ensures h (around w m.stand d m z) (around-holds w m.stand d m z)))
-      | else-tints-rr-eq0 v ↦ rw (v.heads-is, v.up-is, v.down-is, v.stack-is) (spare w m.stand d m v.if-tints-rr-eq0.false)
+      | else-tints-rr-eq0 v ↦ rw (v.heads-is, v.up-is, v.down-is, v.stack-is) (spare w m.stand d m (omega arith))
     ]
 
 pub loop-rr-init : goal.loop-rr-init
@@ -36,7 +37,7 @@ hide_option-stack-requires c =
     let g = c.requires.0 in
     let m = c.loop-rr.invariant g c.requires.1 c.requires.2 in
     let d = c.loop-rr-test.true in
-    let z = c.if-tints-rr-eq0.true in
+    let z : at c.args.tints.now c.loop-rr.rr ≡ 0 = omega arith in
     (taken g (gather_to (hidden g c.args.c) g c.loop-rr.rr), around c.requires.1 m.stand d m z, around-holds c.requires.1 m.stand d m z)
 
 pub link-rr-requires-in-loop-rr : goal.link-rr-requires-in-loop-rr
