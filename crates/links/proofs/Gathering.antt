@@ -5,25 +5,25 @@ use native.Mathlib.Omega.{arith}
 use native.Mathlib.Numerals.{add-one}
 use mathlib.Core.Path.{◌≡◌, refl, ◌∙◌, ap, sym, subst}
 use mathlib.Core.Logic.{◌⊎◌, inl, inr, ⊎_elim, ◌≢◌}
-use mathlib.Core.Bool.{Bool, true, false, cond, false≢true}
+use mathlib.Core.Bool.{Bool, true, false, cond}
 use mathlib.Core.List.Memᴰ.{append_cases as In-append}
 use mathlib.Core.List.Memᴰ.{append_left as In-append-l}
 use mathlib.Core.List.Memᴰ.{append_right as In-append-r}
 use mathlib.Core.List.Memᴰ.{not-nil}
-use mathlib.Core.List.{List, [], ◌∷◌, ◌++◌, append-nil, Memᴰ as In}
+use mathlib.Core.List.{[], ◌++◌, append-nil, Memᴰ as In}
 use borrow.Author.Tests.{le-ltb}
-use lib.Dec.{T, ltb}
+use lib.Dec.{T}
 use Rattle.rules.specs.Lists.{keep}
 use Rattle.rules.specs.Promises.{distinct}
 use Rattle.theorems.proofs.Words.Lists.{keep→}
 use Rattle.theorems.proofs.Words.Distinct.{distinct_append}
 use Rattle.theorems.proofs.Words.Rising.{from-rises, rising-distinct}
 use Rattle.theorems.proofs.Words.Order.{ordered-keep}
-use Rattle.links.specs.Plan.{Plan, start, lo, hi, EntryOf, Header, Planned}
-use Rattle.links.specs.Ground.{Ground, Tidy, Within, taken, Fresh}
-use Rattle.links.specs.Row.{span, full, passed, others}
+use Rattle.links.specs.Plan.{lo, hi, EntryOf}
+use Rattle.links.specs.Ground.{Ground, Tidy, Within, Fresh}
+use Rattle.links.specs.Row.{span, full, others}
 use Rattle.links.specs.Taking.{gather_to}
-use Rattle.links.proofs.Stores.{same?, less?}
+use Rattle.links.proofs.Stores.{same?}
 use Rattle.links.proofs.Spans.{In-span}
 use Rattle.links.proofs.Rows.{In-others}
 use Rattle.links.proofs.Grounds.{fresh-of}

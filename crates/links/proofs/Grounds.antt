@@ -1,26 +1,26 @@
 -- Taking an entry out of its column keeps the lists tidy, putting it back gives the very lists, and what nodes taken one after another leave
 -- as it was. Assumes nothing.
-use Prim.Native.Nat.{ℕ, zero, suc, ◌+◌, ◌-◌, ◌<◌, ◌≤◌}
+use Prim.Native.Nat.{ℕ, ◌+◌, ◌-◌, ◌<◌, ◌≤◌}
 use native.Mathlib.Omega.{arith}
 use mathlib.Core.Path.{◌≡◌, refl, ◌∙◌, ap, sym, subst}
-use mathlib.Core.Logic.{◌⊎◌, inl, inr, ⊎_elim, ◌≢◌}
-use mathlib.Core.Bool.{Bool, true, false, not, ◌&&◌, cond, false≢true, true≢false}
+use mathlib.Core.Logic.{inl, inr, ⊎_elim, ◌≢◌}
+use mathlib.Core.Bool.{Bool, true, false, false≢true}
 use mathlib.Core.List.Memᴰ
 use mathlib.Core.List.Memᴰ.{head as here}
 use mathlib.Core.List.Memᴰ.{tail as next}
 use mathlib.Core.List.{List, [], ◌∷◌, ◌++◌, Memᴰ as In}
-use borrow.Author.Tests.{eq-eqb, ne_eqb}
-use lib.Dec.{T, eqb}
-use lib.ListN.{length, get_or, set, length-set}
+use borrow.Author.Tests.{eq-eqb}
+use lib.Dec.{T}
+use lib.ListN.{length, set, length-set}
 use lib.Seq.{get_or-set_same, get_or-set_other, set-set, set-get_or}
-use lib.IntN.{ℤ, pos, negsuc}
+use lib.IntN.{ℤ, pos}
 use Rattle.rules.specs.Promises.{distinct}
 use Rattle.theorems.proofs.Words.Distinct.{distinct→}
 use Rattle.links.specs.Head.{item_of, below_zero, head, Growing}
-use Rattle.links.specs.Column.{at, cut_up, cut_down, tie_up, tie_down, without, Ring}
-use Rattle.links.specs.Plan.{Plan, start, lo, hi, EntryOf, Header, Planned}
-use Rattle.links.specs.Ground.{Ground, tally, Short, Edge, Tidy, Within, cut_heads, cut_one, taken, Fresh, Holds}
-use Rattle.links.proofs.Stores.{same?, not_so, read_set}
+use Rattle.links.specs.Column.{at, cut_up, cut_down, tie_up, tie_down, without}
+use Rattle.links.specs.Plan.{start, EntryOf, Header, Planned}
+use Rattle.links.specs.Ground.{Ground, tally, Short, Edge, Tidy, Within, cut_heads, cut_one, taken, Fresh}
+use Rattle.links.proofs.Stores.{same?, not_so}
 use Rattle.links.proofs.Rings.{without→, without←, without_other, without-off, above_in, below_in, tied_down, tied_up, ring_cut}
 use Rattle.links.proofs.Plans.{entry-from, entry-till, entry-not-col, entry-no-header, header-before, past-no-entry, past-no-header, before-no-entry, before-no-header}
 use Rattle.links.proofs.Tallies.{tally-cut, tally-keep, tally-some, tally-small}

@@ -1,10 +1,10 @@
 -- The walk back from an entry over shortened ones, a lemma for each of its steps. Assumes nothing.
-use Prim.Native.Nat.{ℕ, zero, suc, ◌+◌, ◌-◌, ◌<◌, ◌≤◌}
+use Prim.Native.Nat.{ℕ, suc, ◌+◌, ◌-◌, ◌<◌, ◌≤◌}
 use native.Mathlib.Omega.{arith}
-use mathlib.Core.Path.{◌≡◌, refl, ◌∙◌, ap, sym, subst}
+use mathlib.Core.Path.{◌≡◌, ◌∙◌, ap, sym}
 use mathlib.Core.Logic.{◌⊎◌, inl, inr, ⊎_elim, ◌≢◌}
-use mathlib.Core.Bool.{Bool, true, false, not, ◌||◌, false≢true, true≢false}
-use mathlib.Core.List.{List, [], ◌∷◌}
+use mathlib.Core.Bool.{true, false, not, false≢true, true≢false}
+use mathlib.Core.List.{List, ◌∷◌}
 use borrow.Author.Tests.{eq-eqb, ne_eqb, lt-ltb, le-ltb}
 use lib.Dec.{T, eqb, ltb}
 use lib.ListN.{length}
@@ -14,9 +14,9 @@ use Rattle.theorems.proofs.Words.Tests.{T_true}
 use Rattle.theorems.proofs.Words.Lists.{any←}
 use Rattle.links.specs.Head.{item_of, zero_head, head}
 use Rattle.links.specs.Column.{at}
-use Rattle.links.specs.Plan.{Plan, start, lo, hi, EntryOf, Planned}
+use Rattle.links.specs.Plan.{lo, hi, EntryOf, Planned}
 use Rattle.links.specs.Ground.{Ground, Short, Edge, Tidy}
-use Rattle.links.specs.Row.{span, full, first_live}
+use Rattle.links.specs.Row.{span, full}
 use Rattle.links.proofs.Stores.{same?}
 use Rattle.links.proofs.Plans.{entry_row, entry-till, row-mate}
 use Rattle.links.proofs.Spans.{span_none, span-In}

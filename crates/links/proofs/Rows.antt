@@ -1,26 +1,24 @@
 -- Walking round an option of a tidy ground, forwards and backwards: where each step leads, and what the walk has passed. Assumes nothing.
-use Prim.Native.Nat.{ℕ, zero, suc, ◌+◌, ◌-◌, ◌<◌, ◌≤◌}
+use Prim.Native.Nat.{ℕ, ◌+◌, ◌-◌, ◌<◌, ◌≤◌}
 use native.Mathlib.Omega.{arith}
-use mathlib.Core.Path.{◌≡◌, refl, ◌∙◌, ap, sym, subst}
+use mathlib.Core.Path.{◌≡◌, ◌∙◌, ap, sym, subst}
 use mathlib.Core.Logic.{◌⊎◌, inl, inr, ⊎_elim, ◌≢◌}
-use mathlib.Core.Bool.{Bool, true, false, cond, false≢true}
+use mathlib.Core.Bool.{true, false, cond}
 use mathlib.Core.List.{List, [], ◌∷◌, ◌++◌, Memᴰ as In}
 use borrow.Author.Tests.{lt-ltb, le-ltb, ltb-true}
 use lib.Dec.{T, ltb}
-use lib.ListN.{length}
-use lib.IntN.{ℤ, pos, negsuc}
-use Rattle.rules.specs.Lists.{keep}
+use lib.IntN.{ℤ, pos}
 use Rattle.theorems.proofs.Words.Tests.{T_true}
 use Rattle.theorems.proofs.Words.Lists.{keep-cong}
 use Rattle.links.specs.Head.{item_of, head}
 use Rattle.links.specs.Column.{at}
-use Rattle.links.specs.Plan.{Plan, start, lo, hi, EntryOf, Header, Planned}
-use Rattle.links.specs.Ground.{Ground, Short, Edge, Tidy, Within, taken, Fresh}
+use Rattle.links.specs.Plan.{Plan, start, lo, hi, EntryOf, Planned}
+use Rattle.links.specs.Ground.{Ground, Edge, Tidy, taken, Fresh}
 use Rattle.links.specs.Row.{span, full, passed, walked, others}
 use Rattle.links.specs.Way.{way, way_back}
-use Rattle.links.proofs.Stores.{same?, less?}
-use Rattle.links.proofs.Plans.{entry-from, entry_row, entry-no-header, row-entry, row-till, row-mate}
-use Rattle.links.proofs.Grounds.{taken-plan, taken-tidy, taken-head, taken-on}
+use Rattle.links.proofs.Stores.{same?}
+use Rattle.links.proofs.Plans.{entry_row, entry-no-header, row-till, row-mate}
+use Rattle.links.proofs.Grounds.{taken-plan, taken-head}
 use Rattle.links.proofs.Spans.{In-span, passed-begin, passed-full, passed_over, passed-edge, In-passed, passed-all, way_next, way-jump, back-next, back-jump}
 
 -- a node with an item is full, one with none is not

@@ -1,13 +1,12 @@
 -- Heads as the code handles them: a signed number read out of its 32 bits is the number, and -1 - h turns option numbers and boundaries into
 -- each other. Assumes nothing.
-use Prim.Native.Nat.{ℕ, zero, suc, ◌+◌, ◌-◌, ◌^◌, ◌<◌, ◌≤◌}
+use Prim.Native.Nat.{ℕ, zero, suc, ◌+◌, ◌-◌, ◌^◌, ◌<◌}
 use native.Mathlib.Omega.{arith}
-use mathlib.Core.Path.{◌≡◌, refl, ◌∙◌, ap, sym}
-use mathlib.Core.Bool.{Bool, true, false, false≢true, true≢false}
+use mathlib.Core.Path.{◌≡◌, refl, ◌∙◌, ap}
+use mathlib.Core.Bool.{true, false, false≢true, true≢false}
 use mathlib.Core.List.{List}
 use borrow.Author.Tests.{ne_eqb, le-ltb, ltb-true, ltb-false}
 use lib.Dec.{T, eqb}
-use lib.ListN.{get_or}
 use lib.IntN.{ℤ, pos, negsuc, nat_abs, ◌+ℤ◌, ◌-ℤ◌}
 use lib.Signed.{lt_z, non_neg, mag}
 use mir.Syntax.{w32, w64}

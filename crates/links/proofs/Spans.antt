@@ -1,15 +1,15 @@
 -- Numbers in a row, and what a walk round a row has passed. Assumes nothing.
-use Prim.Native.Nat.{ℕ, zero, suc, ◌+◌, ◌-◌, ◌<◌, ◌≤◌}
+use Prim.Native.Nat.{ℕ, suc, ◌+◌, ◌-◌, ◌<◌, ◌≤◌}
 use native.Mathlib.Omega.{arith}
-use mathlib.Core.Path.{◌≡◌, refl, ◌∙◌, ap, sym, subst}
+use mathlib.Core.Path.{◌≡◌, ◌∙◌, ap, sym, subst}
 use mathlib.Core.Logic.{◌⊎◌, inl, inr, ⊎_elim, ◌≢◌}
 use mathlib.Core.Bool.{Bool, true, false, cond}
 use mathlib.Core.List.Memᴰ.{append_cases as In-append}
 use mathlib.Core.List.Memᴰ.{append_left as In-append-l}
 use mathlib.Core.List.Memᴰ.{append_right as In-append-r}
 use mathlib.Core.List.{List, [], ◌∷◌, ◌++◌, append_assoc, append-nil, Memᴰ as In}
-use borrow.Author.Tests.{lt-ltb, le-ltb, ltb-true, ltb-false}
-use lib.Dec.{T, ltb}
+use borrow.Author.Tests.{lt-ltb, le-ltb}
+use lib.Dec.{T}
 use lib.IntN.{ℤ}
 use Rattle.rules.specs.Lists.{keep, from}
 use Rattle.theorems.proofs.Words.Lists.{keep→, keep←, keep_append, In-from, from-In, from-split}

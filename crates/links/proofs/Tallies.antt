@@ -1,9 +1,9 @@
 -- Counting the entries of a column: one less when one is taken out, none in a column that lost none. Assumes nothing.
 use Prim.Native.Nat.{ℕ, zero, suc, ◌+◌, ◌-◌, ◌<◌, ◌≤◌}
 use native.Mathlib.Omega.{arith}
-use mathlib.Core.Path.{◌≡◌, refl, ◌∙◌, ap, sym, subst}
+use mathlib.Core.Path.{◌≡◌, refl, ◌∙◌, ap}
 use mathlib.Core.Logic.{◌⊎◌, inl, inr, ⊎_elim, ◌≢◌}
-use mathlib.Core.Bool.{Bool, true, false, ◌&&◌, not, cond}
+use mathlib.Core.Bool.{Bool, true, false, ◌&&◌, not}
 use mathlib.Core.List.Memᴰ.{head as here}
 use mathlib.Core.List.Memᴰ.{tail as next}
 use mathlib.Core.List.{List, [], ◌∷◌, Memᴰ as In}
@@ -12,7 +12,7 @@ use lib.Dec.{T, eqb}
 use Rattle.rules.specs.Lists.{count, from}
 use Rattle.theorems.proofs.Words.Tests.{T-dec, T_true, T_false, T_and}
 use Rattle.theorems.proofs.Words.Counts.{count-cong, count-length}
-use Rattle.theorems.proofs.Words.Lists.{In-from, from-In, length_from}
+use Rattle.theorems.proofs.Words.Lists.{In-from, length_from}
 use Rattle.links.specs.Column.{without}
 use Rattle.links.specs.Plan.{Plan, start}
 use Rattle.links.specs.Ground.{tally}

@@ -1,5 +1,5 @@
 -- What is asked and what is found by the walk back from an entry. Assumes nothing.
-use Rattle.std.specs.Prelude.{ℕ, ◌-◌, ◌<◌, ◌≡◌, Bool, true, List, eqb, ℤ}
+use Rattle.std.specs.Prelude.{ℕ, ◌-◌, ◌<◌, ◌≡◌, true, List, eqb, ℤ}
 use Rattle.links.specs.Head.{item_of, head}
 use Rattle.links.specs.Plan.{lo, EntryOf}
 use Rattle.links.specs.Ground.{Ground, Tidy}

@@ -1,6 +1,6 @@
 -- The plan of the nodes, which no step changes: where each option's entries lie, and of each node its option, its column and its colour.
 -- Assumes nothing.
-use Rattle.std.specs.Prelude.{ℕ, ◌+◌, ◌-◌, ◌<◌, ◌≤◌, ◌≡◌}
+use Rattle.std.specs.Prelude.{ℕ, ◌+◌, ◌<◌, ◌≤◌, ◌≡◌}
 
 pub record Plan : Type 0 where
   -- how many items, options and nodes there are

@@ -1,5 +1,5 @@
 -- Walking round an option. Assumes nothing.
-use Rattle.std.specs.Prelude.{ℕ, ◌+◌, ◌-◌, Bool, true, false, not, cond, List, [], ◌∷◌, ◌++◌, ltb, ℤ}
+use Rattle.std.specs.Prelude.{ℕ, ◌+◌, ◌-◌, Bool, not, cond, List, ◌++◌, ltb, ℤ}
 use Rattle.rules.specs.Lists.{any, keep, from}
 use Rattle.links.specs.Head.{item_of, head}
 use Rattle.links.specs.Plan.{lo, hi}

@@ -1,6 +1,6 @@
 -- The state that plan and mask show: of each option, the live entries. And what holds of the lists between an item's step and the next.
 -- Assumes nothing.
-use Rattle.std.specs.Prelude.{ℕ, ◌-◌, ◌≤◌, ◌≡◌, Bool, true, List, map, length, ℤ, pos}
+use Rattle.std.specs.Prelude.{ℕ, ◌-◌, ◌≤◌, ◌≡◌, Bool, true, List, map, length, pos}
 use Rattle.rules.specs.Lists.{keep, up_to}
 use Rattle.rules.specs.Problem.{Entry}
 use Rattle.rules.specs.State.{State}

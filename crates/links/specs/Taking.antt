@@ -1,10 +1,10 @@
 -- Which nodes the walks take out, as lists in the order of the taking, and what that empties. Assumes nothing.
-use Rattle.std.specs.Prelude.{ℕ, zero, suc, ◌+◌, ◌-◌, ◌≤◌, ◌≡◌, Bool, true, false, not, ◌&&◌, ◌||◌, cond, List, [], ◌∷◌, ◌++◌, leb, ltb, eqb, length, ℤ, pos}
+use Rattle.std.specs.Prelude.{ℕ, zero, suc, ◌+◌, ◌-◌, ◌≤◌, ◌≡◌, Bool, true, false, not, ◌&&◌, ◌||◌, cond, List, [], ◌∷◌, ◌++◌, leb, ltb, eqb, length, pos}
 use Rattle.rules.specs.Lists.{any, all, from}
 use Rattle.rules.specs.Blocked.{agree}
 use Rattle.links.specs.Head.{item_of, head}
 use Rattle.links.specs.Column.{at}
-use Rattle.links.specs.Plan.{Plan, start, lo, hi, EntryOf, Header}
+use Rattle.links.specs.Plan.{start, lo, hi, EntryOf, Header}
 use Rattle.links.specs.Ground.{Ground, Tidy, cut_one, taken}
 use Rattle.links.specs.Row.{span, full, others}
 

@@ -1,5 +1,5 @@
 -- How far a walk round an option has still to go, by numbers that the code has at hand; and how far one down a column has come. Assumes nothing.
-use Rattle.std.specs.Prelude.{ℕ, ◌+◌, ◌-◌, Bool, cond, ltb}
+use Rattle.std.specs.Prelude.{ℕ, ◌+◌, ◌-◌, cond, ltb}
 use Rattle.links.specs.Plan.{Plan, start}
 
 -- forwards from the node after p round to p: n is above every node

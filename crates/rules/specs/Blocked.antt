@@ -1,5 +1,5 @@
 -- Blocked options. Document 01, "The rounds", Blocked. Assumes nothing.
-use Rattle.std.specs.Prelude.{ℕ, Bool, true, false, not, ◌&&◌, ◌||◌, cond, List, [], ◌∷◌, ◌++◌, map, reverse, ltb, eqb}
+use Rattle.std.specs.Prelude.{ℕ, Bool, not, ◌&&◌, ◌||◌, cond, List, [], ◌∷◌, ◌++◌, map, reverse, ltb, eqb}
 use Rattle.rules.specs.Lists.{any, all, each, up_to}
 use Rattle.rules.specs.Problem.{Entry}
 use Rattle.rules.specs.State.{State, Step, went, unless, is, is_uncoloured, holds, holds_uncoloured, begins, in_live, items_of, first_emptied}

@@ -1,7 +1,7 @@
 -- Each check of document 01's table, taken and refused, with its place and its turn, as one list. The figures are small here, so
 -- that their last and the next can both be shown; the checks are the same at any. And the two renumberings with their refusals.
 -- Assumes nothing.
-use Rattle.std.specs.Prelude.{ℕ, ◌≡◌, Bool, false, List, [], ◌∷◌, map, get_or, replicate, ℤ, pos}
+use Rattle.std.specs.Prelude.{ℕ, ◌≡◌, false, List, [], ◌∷◌, map, get_or, replicate, pos}
 use Rattle.std.proofs.Math.Option.{Option, none, some}
 use Rattle.rules.specs.Problem.{Figures}
 use Rattle.rules.specs.Checks.{Refusal, Handed, refusal_of}

@@ -1,6 +1,6 @@
 -- Checks 10 to 22 with their places, in their order, over any lists of numbers and any figures. Document 01, "What comes
 -- back". Assumes nothing.
-use Rattle.std.specs.Prelude.{ℕ, suc, ◌+◌, ◌-◌, Bool, true, false, not, ◌&&◌, ◌||◌, cond, List, [], ◌∷◌, ◌++◌, ltb, eqb, length, get_or, ℤ}
+use Rattle.std.specs.Prelude.{ℕ, suc, ◌+◌, ◌-◌, Bool, true, false, not, ◌&&◌, ◌||◌, cond, List, [], ◌∷◌, ◌++◌, ltb, eqb, length, ℤ}
 use Rattle.std.proofs.Math.Option.{Option, none, some}
 use Rattle.rules.specs.Lists.{or_else, first_of, mem}
 use Rattle.rules.specs.Problem.{Entry, Figures, entries_of, cut}

@@ -1,9 +1,9 @@
 -- A cover: exact covering with colours, by Knuth's rule. Document 01, "A cover". Assumes nothing.
-use Rattle.std.specs.Prelude.{ℕ, ◌≤◌, ◌<◌, ◌≡◌, ◌≢◌, Bool, cond, T, eqb}
+use Rattle.std.specs.Prelude.{ℕ, ◌≤◌, ◌<◌, ◌≡◌, ◌≢◌, cond, T, eqb}
 use mathlib.Core.List.{List, [], ◌∷◌, Memᴰ as In}
 use Rattle.rules.specs.Lists.{rising, up_to}
 use Rattle.rules.specs.Problem.{Entry, Problem}
-use Rattle.rules.specs.State.{State, option_at, holds, holds_primary}
+use Rattle.rules.specs.State.{option_at, holds, holds_primary}
 use Rattle.rules.specs.Result.{Numbered}
 
 -- The set ks of option numbers is a cover. np: items below it are primary; Present q: item q is one of the problem's;

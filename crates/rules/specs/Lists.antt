@@ -1,6 +1,6 @@
 -- Tests and choices over lists, as functions that compute: the small words in which the other definitions are written.
 -- Assumes nothing.
-use Rattle.std.specs.Prelude.{ℕ, zero, suc, Bool, true, false, not, ◌&&◌, ◌||◌, cond, List, [], ◌∷◌, ◌++◌, ltb, eqb, length, drop}
+use Rattle.std.specs.Prelude.{ℕ, zero, suc, Bool, true, false, ◌&&◌, ◌||◌, cond, List, [], ◌∷◌, ◌++◌, ltb, eqb, length, drop}
 use Rattle.std.proofs.Math.Option.{Option, none, some}
 
 module _ {A : Type 0} where

@@ -1,9 +1,9 @@
 -- The one outcome of the whole call: the answer, and every list that was lent, as it is afterwards. Document 01, "What comes
 -- back". Assumes nothing.
-use Rattle.std.specs.Prelude.{ℕ, ◌+◌, Bool, false, List, map, length, ℤ, pos}
+use Rattle.std.specs.Prelude.{ℕ, ◌+◌, Bool, false, map, length, pos}
 use Rattle.std.proofs.Math.Option.{Option, none, some}
 use Rattle.rules.specs.Lists.{written}
-use Rattle.rules.specs.Problem.{Problem, Figures, figures, problem_of}
+use Rattle.rules.specs.Problem.{Figures, figures, problem_of}
 use Rattle.rules.specs.Checks.{Refusal, Room, Results, Handed, refusal_of}
 use Rattle.rules.specs.State.{State}
 use Rattle.rules.specs.Rounds.{Finding, reduced, infeasible, reduce}

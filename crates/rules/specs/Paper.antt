@@ -1,7 +1,6 @@
 -- The answer in the paper's terms: its number, and its values in the order of the table in document 01, "What comes back".
 -- Assumes nothing.
-use Rattle.std.specs.Prelude.{ℕ, Bool, true, false, cond, List, [], ◌∷◌}
-use Rattle.rules.specs.declared.number.Item.{Item}
+use Rattle.std.specs.Prelude.{ℕ, Bool, cond, List, [], ◌∷◌}
 use Rattle.rules.specs.declared.answer.Answer.{Answer}
 use Rattle.rules.specs.declared.answer.Answer.TheVariants.{Reduced, Infeasible, Refused}
 

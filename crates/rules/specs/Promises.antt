@@ -2,11 +2,11 @@
 -- demand each one meets. Assumes nothing.
 use Rattle.std.specs.Prelude.{ℕ, zero, suc, ◌+◌, ◌≤◌, ◌<◌, ◌≡◌, ◌⊎◌, ◌↔◌, Bool, true, false, not, ◌&&◌, T, length, get_or}
 use mathlib.Core.List.{List, [], ◌∷◌, map, Memᴰ as In}
-use Rattle.std.proofs.Math.Option.{Option, none, some}
+use Rattle.std.proofs.Math.Option.{none, some}
 use Rattle.rules.specs.Lists.{keep, each, up_to, mem}
 use Rattle.rules.specs.Problem.{Entry, Problem, Figures, problem_of}
 use Rattle.rules.specs.Checks.{Handed, refusal_of}
-use Rattle.rules.specs.State.{State, Step, went, emptied, is_uncoloured, holds_primary, begins, in_live, items_of}
+use Rattle.rules.specs.State.{State, went, emptied, is_uncoloured, holds_primary, begins, in_live, items_of}
 use Rattle.rules.specs.Redundant.{redundant_for}
 use Rattle.rules.specs.Blocked.{blocked}
 use Rattle.rules.specs.Rounds.{Finding, reduced, infeasible, start, uncovered, item_step, round, reduce}

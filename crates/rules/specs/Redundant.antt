@@ -1,6 +1,6 @@
 -- Redundant items. Document 01, "The rounds", Redundant. Assumes nothing.
-use Rattle.std.specs.Prelude.{ℕ, Bool, true, false, not, ◌&&◌, ◌||◌, cond, List, [], ◌∷◌, map, ltb, eqb, length}
-use Rattle.std.proofs.Math.Option.{Option, none, some}
+use Rattle.std.specs.Prelude.{ℕ, Bool, true, not, ◌&&◌, ◌||◌, cond, List, [], map, ltb, eqb, length}
+use Rattle.std.proofs.Math.Option.{Option}
 use Rattle.rules.specs.Lists.{all, keep, each, up_to, last_that, greatest}
 use Rattle.rules.specs.Problem.{Entry}
 use Rattle.rules.specs.State.{State, Step, went, unless, option_at, is, holds, holds_uncoloured, in_live, around, first_emptied}

@@ -1,5 +1,5 @@
 -- The two renumberings of a result, with refusals 24, 18 and 25. Document 01, "Two renumberings of a result". Assumes nothing.
-use Rattle.std.specs.Prelude.{ℕ, suc, ◌-◌, Bool, true, false, not, ◌||◌, cond, List, [], ◌∷◌, map, ltb, eqb, length, get_or, take}
+use Rattle.std.specs.Prelude.{ℕ, suc, ◌-◌, not, ◌||◌, cond, List, [], ◌∷◌, map, ltb, eqb, length, get_or, take}
 use Rattle.std.proofs.Math.Option.{Option, none, some}
 use Rattle.rules.specs.Lists.{first_of, mem, rising, place, written}
 use Rattle.rules.specs.Checks.{Refusal, refuse, refuse_at}

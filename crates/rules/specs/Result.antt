@@ -1,6 +1,6 @@
 -- The result: kept items, and the options that are left, under original numbers. Document 01, "The rounds", Result, and
 -- "What comes back". Assumes nothing.
-use Rattle.std.specs.Prelude.{ℕ, suc, ◌+◌, Bool, true, false, not, cond, List, [], ◌∷◌, map, ltb, eqb, length}
+use Rattle.std.specs.Prelude.{ℕ, suc, ◌+◌, not, List, [], ◌∷◌, map, ltb, length}
 use Rattle.rules.specs.Lists.{keep, count, each, up_to, place}
 use Rattle.rules.specs.Problem.{Entry, Problem}
 use Rattle.rules.specs.Checks.{Results}

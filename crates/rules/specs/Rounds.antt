@@ -2,7 +2,7 @@
 use Rattle.std.specs.Prelude.{ℕ, zero, suc, Bool, true, false, not, ◌||◌, cond, List, [], ◌∷◌, map}
 use Rattle.std.proofs.Math.Option.{Option, none, some}
 use Rattle.rules.specs.Lists.{up_to, first_that}
-use Rattle.rules.specs.Problem.{Entry, Problem}
+use Rattle.rules.specs.Problem.{Problem}
 use Rattle.rules.specs.State.{State, Step, went, emptied, holds_primary, in_live}
 use Rattle.rules.specs.Redundant.{chosen, remove_item}
 use Rattle.rules.specs.Blocked.{delete_blocked}

@@ -1,13 +1,13 @@
 -- The starred samples of document 01, and some that pin what those leave open, as one list. Each is handed in with working room
 -- and result room filled with other numbers, a place more than is asked for, so that its outcome shows what was
 -- written and what was not. Assumes nothing.
-use Rattle.std.specs.Prelude.{ℕ, suc, ◌+◌, ◌-◌, ◌≡◌, Bool, true, false, List, [], ◌∷◌, ◌++◌, map, length, replicate, ℤ, pos}
+use Rattle.std.specs.Prelude.{ℕ, suc, ◌+◌, ◌-◌, ◌≡◌, List, [], ◌∷◌, ◌++◌, map, length, replicate, pos}
 use Rattle.rules.specs.Lists.{each}
 use Rattle.rules.specs.Problem.{Entry}
 use Rattle.rules.specs.Checks.{Room, Results, Handed}
 use Rattle.rules.specs.State.{items_of}
 use Rattle.rules.specs.Result.{colours_of, primaries_of}
-use Rattle.rules.specs.Renumber.{Renumbered, compact_outcome, crate_outcome}
+use Rattle.rules.specs.Renumber.{compact_outcome, crate_outcome}
 use Rattle.rules.specs.Paper.{Said}
 use Rattle.rules.specs.Outcome.{Outcome, outcome_of}
 

@@ -1,6 +1,6 @@
 -- What the problem's own type takes: its figures, and the counts that its constructor accepts. Document 01, "The problem as handed
 -- in" and checks 10 to 15. Assumes nothing.
-use Rattle.std.specs.Prelude.{ℕ, ◌≡◌, Bool}
+use Rattle.std.specs.Prelude.{ℕ, Bool}
 use Rattle.std.proofs.Math.Option.{Option, none, some}
 use Rattle.rules.specs.declared.problem.Problem.{Problem}
 use Rattle.rules.specs.declared.problem.Figures.{Figures}

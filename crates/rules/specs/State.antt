@@ -2,7 +2,7 @@
 --
 -- A state lists, for each option number, the live entries of that option in given order; an option that is skipped or deleted
 -- has none.
-use Rattle.std.specs.Prelude.{ℕ, Bool, true, false, not, ◌&&◌, cond, List, [], ◌∷◌, ◌++◌, map, ltb, eqb, get_or}
+use Rattle.std.specs.Prelude.{ℕ, Bool, false, not, ◌&&◌, cond, List, [], ◌∷◌, ◌++◌, map, ltb, eqb, get_or}
 use Rattle.std.proofs.Math.Option.{Option, none, some}
 use Rattle.rules.specs.Lists.{any, mem}
 use Rattle.rules.specs.Problem.{Entry}

@@ -1,6 +1,6 @@
 -- Going round an option: the others of a node, in the order of a walk from the node after it, are the entries that the rules go round, and from
 -- the first node that is in its column they are those from the second to the first. Assumes nothing.
-use Prim.Native.Nat.{ℕ, zero, suc, ◌+◌, ◌-◌, ◌<◌, ◌≤◌}
+use Prim.Native.Nat.{ℕ, suc, ◌+◌, ◌-◌, ◌<◌, ◌≤◌}
 use native.Mathlib.Omega.{arith}
 use mathlib.Core.Path.{◌≡◌, refl, ◌∙◌, ap, sym}
 use mathlib.Core.Logic.{⊎_elim, ◌≢◌}

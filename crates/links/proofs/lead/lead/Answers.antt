@@ -1,9 +1,7 @@
 -- `links::lead::lead` meets its contract: at each place the walk has met shortened entries only. Assumes nothing.
-use Rattle.std.proofs.Common.{ℕ, ◌+◌, ◌≡◌, ◌∙◌, ap, sym, arith}
+use Rattle.std.proofs.Common.{ℕ, ◌+◌, ◌∙◌, ap, sym, arith}
 use Rattle.std.proofs.Common.{inl, inr}
-use Rattle.links.specs.Ground.{Ground}
-use Rattle.links.specs.Lead.{Led}
-use Rattle.links.proofs.Leading.{Back, led-begin, led-heads, led-down, led-more, led-step, led-done}
+use Rattle.links.proofs.Leading.{led-begin, led-heads, led-down, led-more, led-step, led-done}
 use Rattle.links.proofs.lead.lead.Goals as goal
 
 pub loop-q-init : goal.loop-q-init

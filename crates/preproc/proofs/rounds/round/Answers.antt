@@ -1,5 +1,5 @@
 -- `preproc::rounds::round` meets its contract: at each item the rest of the round is the rules' rest. Assumes nothing.
-use Rattle.std.proofs.Common.{refl, ◌∙◌, sym}
+use Rattle.std.proofs.Common.{refl, arith}
 use Rattle.preproc.proofs.Rounding.{round-begin, round-end, round-figured, round-header, round-standing, round-over, round-stop, round-next}
 use Rattle.preproc.proofs.rounds.round.Goals as goal
 
@@ -8,7 +8,7 @@ loop-i-init c = λ g s f m. round-begin _ _ s
 
 pub loop-i-preserved-then-item_at-eq0 : goal.loop-i-preserved-then-item_at-eq0
 loop-i-preserved-then-item_at-eq0 c =
-    λ g s f m. round-over f m (c.loop-i.invariant g s f m) c.loop-i-test.true (sym c.item_at.ensures ∙ c.if-item_at-eq0.true)
+    λ g s f m. round-over f m (c.loop-i.invariant g s f m) c.loop-i-test.true (omega arith)
 
 pub reduce_options-step-requires : goal.reduce_options-step-requires
 reduce_options-step-requires c =
@@ -23,7 +23,7 @@ returns-then-step-ne0 c =
     let G = c.loop-i.invariant g s f m in
     let t = c.loop-i-test.true in
     let o = c.reduce_options-step.ensures G.holding.ground c.loop-i.i (round-standing f m G t) (round-figured f m G t) refl (round-header f m G t) in
-    round-stop f m G t (λ z. c.if-item_at-eq0.false (c.item_at.ensures ∙ z)) o c.if-step-ne0.true
+    round-stop f m G t (λ z. omega arith) o c.if-step-ne0.true
 
 pub loop-i-preserved : goal.loop-i-preserved
 loop-i-preserved c =
@@ -31,7 +31,7 @@ loop-i-preserved c =
     let G = c.loop-i.invariant g s f m in
     let t = c.loop-i-test.true in
     let o = c.reduce_options-step.ensures G.holding.ground c.loop-i.i (round-standing f m G t) (round-figured f m G t) refl (round-header f m G t) in
-    rw c.either-removed.ensures (round-next f m G t (λ z. c.if-item_at-eq0.false (c.item_at.ensures ∙ z)) o c.if-step-ne0.false)
+    rw c.either-removed.ensures (round-next f m G t (λ z. omega arith) o c.if-step-ne0.false)
 
 pub returns : goal.returns
 returns c = λ g s f m. round-end f m (c.loop-i.invariant g s f m) c.loop-i-test.false
