@@ -2,7 +2,7 @@
 # Sourced with `root` set to the root of the repository: the archive of the calls, and how a C program is built with it and run.
 # There are two ways:
 #   host  the machine's own compiler, `cc` (or $CC), and an archive for the machine: `tools/archive` makes it for x86-64; for another
-#         processor ../shared/tools/native-archive does, where it is at hand
+#         processor ../shared/tools/native-archive did, with an older kit that has what it calls
 #   kit   the kit's compiler, linker and C library, which are for x86-64, with the cut-down headers in bare/; on another
 #         processor the program runs under the kit's emulator. Needs nothing but the kit
 # The first that can be had is taken; KAPKYREM_BUILD=kit or =host asks for one. KAPKYREM_ARCHIVE=FILE takes an archive as it is.
@@ -45,7 +45,7 @@ make_archive() {
     archive=$root/target/staticlib/libkapkyrem.a
     if [ "$way" = host ] && [ "$machine" != x86_64 ]; then
         archive=$out/libkapkyrem-$machine.a
-        make=("$native" kapkyrem "$archive")
+        make=("$native" kapkyrem_c "$archive")
     fi
     is_fresh "$archive" && return 0
     command -v rt >/dev/null || die "the Rattle kit is not on the path (rt)"

@@ -1,11 +1,16 @@
 -- `hiding::away::hide` meets its contract: at each place of the walk the lists are without the options hidden so far. Assumes nothing.
-use Rattle.std.proofs.Common.{◌≡◌, ◌+◌, length, arith}
+use Rattle.std.proofs.Common.{ℕ, ◌≡◌, ◌≢◌, ◌≤◌, ◌+◌, List, length, arith}
+use Rattle.std.proofs.Math.IntN.{ℤ}
+use mathlib.Core.Logic.{⊎_elim}
 use Rattle.links.specs.Column.{at}
 use Rattle.links.specs.Ground.{Ground, taken, Holds}
+use Rattle.links.specs.Row.{others}
 use Rattle.links.specs.Taking.{gather_to, hidden}
+use Rattle.links.proofs.Stores.{same?}
+use Rattle.links.proofs.Descending.{Stand}
 use Rattle.hiding.specs.Hiding.{Column, Taken}
 use Rattle.hiding.proofs.Columns.{stand-small, tint-in}
-use Rattle.hiding.proofs.Descent.{room, begin, finish, next-in, next, next-less, spare, around, around-holds, hide}
+use Rattle.hiding.proofs.Descent.{Descent, room, begin, finish, next-in, next, next-less, spare, around, around-holds, hide}
 use Rattle.hiding.proofs.away.hide.Goals as goal
 use Rattle.hiding.proofs.away.hide.Goals.{Joined-tints-rr-eq0, then-tints-rr-eq0, else-tints-rr-eq0}
 
@@ -52,11 +57,21 @@ loop-rr-smaller c =
     (next-less c.requires.1 m.stand c.loop-rr-test.true (dealt (goal.at.loop-rr-smaller c).Joined-tints-rr-eq0 c.requires.0 c.requires.1 c.requires.2) (length c.args.heads.now)
     (room c.requires.1 c.requires.2))
 
+-- the same whatever the test is called: hidden if the colour is 0, else left alone
+either-way : {g : Ground} {tints : List ℕ} {c from : ℕ} (w : Column g tints c from) {rr : ℕ} (s : Stand g c rr) (l : from ≤ rr)
+    {np : ℕ} {heads : List ℤ} {up down : List ℕ} {stack : ℕ} (m : Descent g c np heads up down rr stack) {heads' : List ℤ} {up' down' : List ℕ} {stack' : ℕ}
+    → (at tints rr ≡ 0 → Taken (taken g (gather_to (hidden g c) g rr)) (others (taken g (gather_to (hidden g c) g rr)) rr) np stack heads' up' down' stack')
+    → (at tints rr ≢ 0 → Taken g (gather_to (hidden g c) g (rr + 1)) np 0 heads up down stack → Taken g (gather_to (hidden g c) g (rr + 1)) np 0 heads' up' down' stack')
+    → Taken g (gather_to (hidden g c) g (rr + 1)) np 0 heads' up' down' stack'
+either-way {tints = tints} w {rr = rr} s l m a b = ⊎_elim (λ z. hide w s l m z (a z)) (λ n. b n (spare w s l m n)) (same? (at tints rr) 0)
+
 pub loop-rr-preserved : goal.loop-rr-preserved
 loop-rr-preserved c =
     λ g w k.
+    let d = c.loop-rr-test.true in
+    let m = c.loop-rr.invariant g w k in
     rw c.link-rr-in-loop-rr.ensures
-    (next w (c.loop-rr.invariant g w k).stand c.loop-rr-test.true (dealt (goal.at.loop-rr-preserved c).Joined-tints-rr-eq0 g w k))
+    (next w m.stand d (either-way w m.stand d m (λ z. grind (arith, around w m.stand d m z, around-holds w m.stand d m z)) (λ n t. grind (arith, t))))
 
 pub returns : goal.returns
 returns c = λ g w k. finish w (c.loop-rr.invariant g w k) c.loop-rr-test.false
