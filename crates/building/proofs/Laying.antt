@@ -186,9 +186,6 @@ module _ (P : Plan) (W : Planned P) where
           let a = (L.ring.tied (at up (P.col x)) (L.ring.tied (P.col x) c-on).above_on).inside in
           (growing, omega (arith, before, inside, L.ring.ups), omega (arith, a, L.ring.downs))
 
-      pub node_in : (x < length heads) × (x < length up) × (x < length down) × (x < length tints)
-      node_in = (omega (arith, inside, L.heads-in), omega (arith, inside, L.ring.ups), omega (arith, inside, L.ring.downs), omega (arith, inside, L.tints-in))
-
   -- The boundary after option k.
   module _ (k : ℕ) (l : k < P.M) (row : P.first k < P.past k) (heads : List ℤ) (up down tints : List ℕ) (L : Laid P (P.past k) heads up down tints) where
     last_off : below P (P.past k) (P.past k) ≡ false
@@ -254,12 +251,6 @@ module _ (P : Plan) (W : Planned P) where
       spacer = spacer-close;
       edge = edge-close;
     }
-
-    -- what writing it asks of the lists
-    pub close-in : (P.past k < 1048576) × (k < 1048576) × (P.past k < length heads) × (P.past k < length up) × (P.past k < length down)
-    close-in =
-        let t = W.till k l row in
-        (omega (arith, W.small), omega (arith, W.options-small), in-heads, omega (arith, L.ring.ups), omega (arith, L.ring.downs))
 
   -- When all is laid out, the lists are tidy, and every header and every entry is in its column.
   module _ (heads : List ℤ) (up down tints : List ℕ) (L : Laid P P.N heads up down tints) where

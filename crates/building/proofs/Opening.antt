@@ -70,7 +70,7 @@ module _ (P : Plan) (W : Planned P) (x : ℕ) (heads : List ℤ) (up down tints 
   open-entry = record {
     closed = end_down up O.closed c x;
     laid = laid-entry P W x heads up O.closed tints O.laid e;
-    long = rw (length-set, length-set, length-set) O.long;
+    long = simp length-set O.long;
     same = λ y. ⊎_elim (λ r. inr (record { column = c; header = c-header; behind = c-header.above; there = r ∙ sym up-head })) (λ n. ⊎_elim (λ r. inl (rw r same-last)) (λ m. other y n m (O.same y)) (same? y q)) (same? y x);
   }
 
@@ -90,7 +90,7 @@ module _ (P : Plan) (W : Planned P) (k : ℕ) (l : k < P.M) (row : P.first k < P
   open-close = record {
     closed = set O.closed (P.first k - 1) (P.past k - 1);
     laid = laid-close P W k l row heads up O.closed tints O.laid;
-    long = rw (length-set, length-set) O.long;
+    long = simp length-set O.long;
     same = λ y.
         ⊎_elim (λ r. inl (rw r (get_or-set_same down (P.first k - 1) (P.past k - 1) 0 (omega (arith, in-closed, O.long)) ∙ sym (get_or-set_same O.closed (P.first k - 1) (P.past k - 1) 0 in-closed))))
         (λ n. beside y n (O.same y)) (same? y (P.first k - 1));

@@ -1,7 +1,6 @@
 -- Laying out the options of what was handed in, one after another: the plan of the problem is a plan, each option's turn comes where the
 -- plan has it, and behind the last one the lists hold the problem. Assumes nothing.
-use Rattle.std.proofs.Common.{◌≡◌, ℕ, ◌+◌, ◌-◌, ◌<◌, ◌≤◌, Bool, true, false, cond, T, List, [], ◌∷◌, map, length, get_or, ℤ, sym, refl, ap, ◌∙◌, subst, ⊎_elim, add-one, arith, length-append}
-use mathlib.Core.Bool.{false≢true}
+use Rattle.std.proofs.Common.{◌≡◌, ℕ, ◌+◌, ◌-◌, ◌<◌, ◌≤◌, Bool, true, false, cond, T, List, [], ◌∷◌, map, length, get_or, ℤ, sym, refl, ap, ◌∙◌, subst, add-one, arith, length-append}
 use mathlib.Core.List.Memᴰ.{not-nil}
 use mathlib.Core.List.{Memᴰ as In}
 use lib.ListN.{length-map}
@@ -16,14 +15,13 @@ use Rattle.theorems.proofs.Checks.Cutting.{length-entries_of, length_cut, check1
 use Rattle.theorems.proofs.Steps.Start.{start_of, start-at}
 use Rattle.links.specs.Column.{at}
 use Rattle.links.specs.Plan.{Plan, start, EntryOf, Planned}
-use Rattle.links.proofs.Stores.{less?}
 use Rattle.building.specs.Layout.{size_of, first_node, plan_for, plan_of}
 use Rattle.building.specs.Laid.{Laid, Open, closing}
 use Rattle.building.specs.Build.{primary_in, Cleared, Spelled, Turn, behind, Buildable, Built}
 use Rattle.building.proofs.Layouts.{size-live, first-zero, first_more, planned-for, spelled-col, spelled-tint, spelled-entry, shows-state}
 use Rattle.building.proofs.Laying.{laid-begin, ready-all, tinted-all}
 use Rattle.building.proofs.Opening.{open-laid, last-in, open-end}
-use Rattle.building.proofs.Parts.{end_before, cut_at, ends_at, get_or-slice, entries_at, primary-same, primary-begin}
+use Rattle.building.proofs.Parts.{end_before, cut_at, ends_at, get_or-slice, part, part-is, entries_at, primary-same, primary-some}
 
 -- An option takes at most one node more than it has entries, so there are at most as many as all entries and options.
 size-start : (np : ℕ) (o : List Entry) → size_of (start_of np o) ≤ length o + 1
@@ -60,24 +58,7 @@ pub record Place (np ns : ℕ) (items colours ends : List ℕ) (heads : List ℤ
   pub first : (plan_of (problem_of np ns items colours ends)).first k ≡ p + 1
   pub so_far : Open (plan_of (problem_of np ns items colours ends)) 0 (p + 1) heads up down tints
 
--- Lists of the same lengths will do as well.
-pub buildable-kept : {f : Figures} {np ns n : ℕ} {items colours ends : List ℕ} {heads heads' : List ℤ} {up up' down down' tints marks marks' : List ℕ}
-    → length heads' ≡ length heads → length up' ≡ length up → length down' ≡ length down → length marks' ≡ length marks
-    → Buildable f np ns n items colours ends heads up down tints marks → Buildable f np ns n items colours ends heads' up' down' tints marks'
-buildable-kept h u d m B = record {
-  total = B.total;
-  accepted = B.accepted;
-  lengths = B.lengths;
-  ends-rise = B.ends-rise;
-  small = B.small;
-  heads-room = rw h B.heads-room;
-  up_room = rw u B.up_room;
-  down-room = rw d B.down-room;
-  tints-room = B.tints-room;
-  marks-room = rw m B.marks-room;
-}
-
-module _ (f : Figures) (np ns n : ℕ) (items colours ends : List ℕ) (heads₀ : List ℤ) (up₀ down₀ tints₀ marks₀ : List ℕ)
+module _ {f : Figures} {np ns n : ℕ} {items colours ends : List ℕ} {heads₀ : List ℤ} {up₀ down₀ tints₀ marks₀ : List ℕ}
     (B : Buildable f np ns n items colours ends heads₀ up₀ down₀ tints₀ marks₀) where
   abbrev a : Problem
   a = problem_of np ns items colours ends
@@ -126,103 +107,119 @@ module _ (f : Figures) (np ns n : ℕ) (items colours ends : List ℕ) (heads₀
   zero-first = first-zero (a.n + 2) (starting a) ∙ omega (arith, a-n)
 
   -- The headers are cleared: option 0 is next.
-  pub place-begin : Cleared n heads₀ up₀ down₀ marks₀ → Place np ns items colours ends heads₀ up₀ down₀ tints₀ (n + 1) 0 0
-  place-begin c = record { within = omega arith; from = refl; first = zero-first; so_far = open-laid (plan_of a) 0 (n + 1 + 1) (rw (sym e) all-clear) }
+  pub place-begin : {heads : List ℤ} {up down marks : List ℕ} → length heads ≡ length heads₀ → length up ≡ length up₀ → length down ≡ length down₀
+      → Cleared n heads up down marks → Place np ns items colours ends heads up down tints₀ (n + 1) 0 0
+  place-begin {heads} {up} {down} {marks} h u d c = record { within = omega arith; from = refl; first = zero-first; so_far = open-laid (plan_of a) 0 (n + 1 + 1) (rw (sym e) all-clear) }
     where
       e : start (plan_of a) ≡ n + 1 + 1
       e = omega (arith, n-is)
 
-      all-clear : Laid (plan_of a) (start (plan_of a)) heads₀ up₀ down₀ tints₀
+      all-clear : Laid (plan_of a) (start (plan_of a)) heads up down tints₀
       all-clear =
-          laid-begin (plan_of a) planned heads₀ up₀ down₀ tints₀ marks₀ (rw n-is c)
-          (omega (arith, nodes, B.heads-room)) (omega (arith, nodes, B.up_room)) (omega (arith, nodes, B.down-room)) (omega (arith, nodes, B.tints-room))
+          laid-begin (plan_of a) planned heads up down tints₀ marks (rw n-is c)
+          (omega (arith, nodes, B.heads-room, h)) (omega (arith, nodes, B.up_room, u)) (omega (arith, nodes, B.down-room, d)) (omega (arith, nodes, B.tints-room))
 
   -- Option k, where it is next.
-  module _ (heads : List ℤ) (up down tints : List ℕ) (p begin k : ℕ) (here : Place np ns items colours ends heads up down tints p begin k) (more : k < length ends) where
+  module _ {heads : List ℤ} {up down tints : List ℕ} {p begin k : ℕ} (here : Place np ns items colours ends heads up down tints p begin k) (more : k < length ends) where
     rising : (begin ≤ at ends k) × (at ends k ≤ length items)
     rising = rw here.from (ends_at (check16→ (length items) ends B.ends-rise).0 k more)
 
     k-in : k < length (starting a)
     k-in = rw length-s more
 
+    -- where it lies in the lists, and its items and colours
+    pub part-in : (begin ≤ at ends k) × (at ends k ≤ length items) × (at ends k ≤ length colours)
+    part-in = (rising.0, rising.1, omega (arith, rising.1, B.lengths))
+
+    abbrev its : List ℕ
+    its = part begin (at ends k) items
+
+    abbrev shades : List ℕ
+    shades = part begin (at ends k) colours
+
+    its-are : its ≡ slice begin (at ends k) items
+    its-are = part-is begin (at ends k) items rising.0
+
+    shades-are : shades ≡ slice begin (at ends k) colours
+    shades-are = part-is begin (at ends k) colours rising.0
+
+    its-long : length its ≡ at ends k - begin
+    its-long = ap length its-are ∙ length-slice begin (at ends k) items rising.1
+
+    primary-is : holds_primary np (slice begin (at ends k) (entries_of items colours)) ≡ primary_in np its
+    primary-is = primary-same np begin (at ends k) items colours B.lengths ∙ ap (primary_in np) (sym its-are)
+
     -- what the plan has of it
     option_is : option_at (starting a) k ≡ start_of np (slice begin (at ends k) (entries_of items colours))
     unfolding problem_of
     option_is = start-at a k ∙ ap (start_of np) (cut_at 0 ends (entries_of items colours) k more ∙ ap (λ (z : ℕ). slice z (at ends k) (entries_of items colours)) (sym here.from))
 
-    live-is : primary_in np begin (at ends k) items ≡ true → option_at (starting a) k ≡ slice begin (at ends k) (entries_of items colours)
-    live-is t = option_is ∙ ap (λ (b : Bool). cond b (slice begin (at ends k) (entries_of items colours)) []) (primary-same np begin (at ends k) items colours B.lengths ∙ t)
+    live-is : primary_in np its ≡ true → option_at (starting a) k ≡ slice begin (at ends k) (entries_of items colours)
+    live-is t = option_is ∙ ap (λ (b : Bool). cond b (slice begin (at ends k) (entries_of items colours)) []) (primary-is ∙ t)
 
-    skipped-is : primary_in np begin (at ends k) items ≡ false → option_at (starting a) k ≡ []
-    skipped-is t = option_is ∙ ap (λ (b : Bool). cond b (slice begin (at ends k) (entries_of items colours)) []) (primary-same np begin (at ends k) items colours B.lengths ∙ t)
+    skipped-is : primary_in np its ≡ false → option_at (starting a) k ≡ []
+    skipped-is t = option_is ∙ ap (λ (b : Bool). cond b (slice begin (at ends k) (entries_of items colours)) []) (primary-is ∙ t)
 
-    live-length : primary_in np begin (at ends k) items ≡ true → length (option_at (starting a) k) ≡ at ends k - begin
-    live-length t = ap length (live-is t) ∙ length-slice begin (at ends k) (entries_of items colours) (rw many rising.1)
-
-    some-entry : primary_in np begin (at ends k) items ≡ true → begin < at ends k
-    some-entry t = ⊎_elim (λ l. l) (λ l. none (omega (arith, l, rising.0))) (less? begin (at ends k))
-      where
-        none : begin ≡ at ends k → begin < at ends k
-        none e = absurd (false≢true (sym (primary-begin np (at ends k) items) ∙ ap (λ (z : ℕ). primary_in np z (at ends k) items) (sym e) ∙ t))
+    live-length : primary_in np its ≡ true → length (option_at (starting a) k) ≡ length its
+    live-length t = ap length (live-is t) ∙ length-slice begin (at ends k) (entries_of items colours) (rw many rising.1) ∙ sym its-long
 
     -- its entries, place by place
-    entry-is : primary_in np begin (at ends k) items ≡ true → (j : ℕ) → begin ≤ j → j < at ends k
-        → get_or (option_at (starting a) k) (j - begin) (record { item = 0; colour = 0 }) ≡ record { item = at items j; colour = at colours j }
-    entry-is t j l m =
-        let e : begin + (j - begin) ≡ j = omega arith in
-        ap (λ (o : List Entry). get_or o (j - begin) (record { item = 0; colour = 0 })) (live-is t)
-        ∙ get_or-slice begin (at ends k) (entries_of items colours) (j - begin) (record { item = 0; colour = 0 }) (omega arith)
-        ∙ ap (λ (z : ℕ). get_or (entries_of items colours) z (record { item = 0; colour = 0 })) e
-        ∙ entries_at items colours B.lengths j (omega (arith, m, rising.1))
+    entry-is : primary_in np its ≡ true → (j : ℕ) → j < length its
+        → get_or (option_at (starting a) k) j (record { item = 0; colour = 0 }) ≡ record { item = at its j; colour = at shades j }
+    entry-is t j m =
+        let l : begin + j < at ends k = omega (arith, m, its-long) in
+        ap (λ (o : List Entry). get_or o j (record { item = 0; colour = 0 })) (live-is t)
+        ∙ get_or-slice begin (at ends k) (entries_of items colours) j (record { item = 0; colour = 0 }) l
+        ∙ entries_at items colours B.lengths (begin + j) (omega (arith, l, rising.1))
+        ∙ rw (its-are, shades-are, get_or-slice begin (at ends k) items j 0 l, get_or-slice begin (at ends k) colours j 0 l) refl
 
-    spelled_at : primary_in np begin (at ends k) items ≡ true → (j : ℕ) → begin ≤ j → j < at ends k → Spelled (plan_of a) (p + 1 + (j - begin)) j items colours
+    spelled_at : primary_in np its ≡ true → (j : ℕ) → j < length its → Spelled (plan_of a) (p + 1 + j) j its shades
     unfolding plan_for
-    spelled_at t j l m =
-        let i : j - begin < length (option_at (starting a) k) = omega (arith, live-length t, l, m) in
-        let e : first_node (a.n + 2) (starting a) k + (j - begin) ≡ p + 1 + (j - begin) = ap (λ (z : ℕ). z + (j - begin)) here.first in
+    spelled_at t j m =
+        let i : j < length (option_at (starting a) k) = omega (arith, live-length t, m) in
+        let e : first_node (a.n + 2) (starting a) k + j ≡ p + 1 + j = ap (λ (z : ℕ). z + j) here.first in
         record {
-          entry = subst (λ (x : ℕ). EntryOf (plan_of a) x) e (spelled-entry a.n (starting a) few-nodes few-options items-below once k (j - begin) k-in i);
-          col = ap (plan_of a).col (sym e) ∙ spelled-col a.n (starting a) few-nodes few-options items-below once k (j - begin) k-in i ∙ ap (λ (d : Entry). d.item + 1) (entry-is t j l m);
-          tint = ap (plan_of a).tint (sym e) ∙ spelled-tint a.n (starting a) few-nodes few-options items-below once k (j - begin) k-in i ∙ ap (λ (d : Entry). d.colour) (entry-is t j l m);
+          entry = subst (λ (x : ℕ). EntryOf (plan_of a) x) e (spelled-entry a.n (starting a) few-nodes few-options items-below once k j k-in i);
+          col = ap (plan_of a).col (sym e) ∙ spelled-col a.n (starting a) few-nodes few-options items-below once k j k-in i ∙ ap (λ (d : Entry). d.item + 1) (entry-is t j m);
+          tint = ap (plan_of a).tint (sym e) ∙ spelled-tint a.n (starting a) few-nodes few-options items-below once k j k-in i ∙ ap (λ (d : Entry). d.colour) (entry-is t j m);
         }
 
-    past-at : primary_in np begin (at ends k) items ≡ true → (plan_of a).past k ≡ p + 1 + (at ends k - begin)
+    past-at : primary_in np its ≡ true → (plan_of a).past k ≡ p + 1 + length its
     unfolding plan_for
     past-at t = omega (arith, here.first, live-length t)
 
-    turn : Turn (plan_of a) np k p begin (at ends k) items colours heads up down tints
+    turn : Turn (plan_of a) np k p its shades heads up down tints
     unfolding plan_for
-    turn = record { planned = planned; option = k-in; first = here.first; past = past-at; some = some-entry; spelled = spelled_at; so_far = here.so_far }
+    turn = record { planned = planned; option = k-in; first = here.first; past = past-at; spelled = spelled_at; so_far = here.so_far }
 
-    -- what laying it out asks for, where `end` is what was read
-    pub turn-asks : (end : ℕ) → end ≡ at ends k
-        → ((begin ≤ end) × (end ≤ length items) × (end ≤ length colours)) × ((P : Plan) × Turn P np k p begin end items colours heads up down tints)
-    turn-asks end e = rw e ((rising.0, rising.1, omega (arith, rising.1, B.lengths)), (plan_of a, turn))
+    -- what laying it out asks for
+    pub turn-asks : {m : ℕ} → m ≡ np → (P : Plan) × Turn P m k p its shades heads up down tints
+    turn-asks e = rw e ((plan_of a, turn))
 
     -- the option behind it
     next-step : (plan_of a).first (k + 1) ≡ (plan_of a).first k + size_of (option_at (starting a) k)
     unfolding plan_for
     next-step = ap (first_node (a.n + 2) (starting a)) (add-one k) ∙ first_more (a.n + 2) (starting a) k k-in
 
-    next-first : (plan_of a).first (k + 1) ≡ behind np p begin (at ends k) items + 1
-    next-first = go (primary_in np begin (at ends k) items) refl
+    next-first : (plan_of a).first (k + 1) ≡ behind np p its + 1
+    next-first = go (primary_in np its) refl
       where
-        go : (b : Bool) → primary_in np begin (at ends k) items ≡ b → (plan_of a).first (k + 1) ≡ cond b (p + 1 + (at ends k - begin)) p + 1
-        go true t = let l = some-entry t in omega (arith, next-step, here.first, size-live (option_at (starting a) k) (omega (arith, live-length t)), live-length t)
+        go : (b : Bool) → primary_in np its ≡ b → (plan_of a).first (k + 1) ≡ cond b (p + 1 + length its) p + 1
+        go true t = omega (arith, next-step, here.first, size-live (option_at (starting a) k) (omega (arith, live-length t, primary-some np its t)), live-length t)
         go false t = omega (arith, next-step, here.first, ap size_of (skipped-is t))
 
-    pub place-next : (end r : ℕ) → end ≡ at ends k → r ≡ behind np p begin end items → (heads' : List ℤ) (up' down' tints' : List ℕ)
-        → ((P : Plan) → Turn P np k p begin end items colours heads up down tints → Open P 0 (r + 1) heads' up' down' tints')
-        → Place np ns items colours ends heads' up' down' tints' r end (k + 1)
-    place-next end r e q heads' up' down' tints' L = record {
+    pub place-next : {m r : ℕ} → m ≡ np → r ≡ behind m p its → {heads' : List ℤ} {up' down' tints' : List ℕ}
+        → ((P : Plan) → Turn P m k p its shades heads up down tints → Open P 0 (r + 1) heads' up' down' tints')
+        → Place np ns items colours ends heads' up' down' tints' r (at ends k) (k + 1)
+    place-next e q L = record {
       within = omega arith;
-      from = e ∙ sym (ap (end_before 0 ends) (add-one k));
-      first = next-first ∙ ap (λ (z : ℕ). z + 1) (sym (q ∙ ap (λ (z : ℕ). behind np p begin z items) e));
+      from = sym (ap (end_before 0 ends) (add-one k));
+      first = next-first ∙ ap (λ (z : ℕ). z + 1) (sym (q ∙ ap (λ (z : ℕ). behind z p its) e));
       so_far = L (plan_of a) (rw e turn);
     }
 
   -- Behind the last option the lists hold the problem.
-  module _ (heads : List ℤ) (up down tints : List ℕ) (p begin k : ℕ) (here : Place np ns items colours ends heads up down tints p begin k) (stop : length ends ≤ k) where
+  module _ {heads : List ℤ} {up down tints : List ℕ} {p begin k : ℕ} (here : Place np ns items colours ends heads up down tints p begin k) (stop : length ends ≤ k) where
     all_there : p + 1 ≡ (plan_of a).N
     unfolding plan_for
     all_there = let e : k ≡ length (starting a) = omega (arith, here.within, length-s) in sym here.first ∙ ap (first_node (a.n + 2) (starting a)) e
@@ -241,9 +238,9 @@ module _ (f : Figures) (np ns n : ℕ) (items colours ends : List ℕ) (heads₀
     all_laid : Laid (plan_of a) (plan_of a).N heads up (closing n up down) tints
     all_laid = subst (λ (i : ℕ). Laid (plan_of a) (plan_of a).N heads up (closing i up down) tints) n-is (open-end (plan_of a) planned (plan_of a).N planned.room heads up tints down all-open)
 
-    pub place_end : (down' marks : List ℕ) → down' ≡ closing n up down → ((i : ℕ) → i ≤ n → at marks i ≡ 0) → Built a n (length ends) heads up down' tints marks
+    pub place_end : {down' marks : List ℕ} → down' ≡ closing n up down → ((i : ℕ) → i ≤ n → at marks i ≡ 0) → Built a n (length ends) heads up down' tints marks
     unfolding plan_for
-    place_end down' marks e zeros = rw e (record {
+    place_end e zeros = rw e (record {
       ready = ready-all (plan_of a) planned heads up (closing n up down) tints all_laid;
       tinted = tinted-all (plan_of a) planned heads up (closing n up down) tints all_laid;
       unmarked = zeros;

@@ -1,7 +1,6 @@
 -- What the building of the lists asks for, and what it ensures. Assumes nothing.
-use Rattle.std.specs.Prelude.{◌≡◌, ℕ, ◌+◌, ◌-◌, ◌<◌, ◌≤◌, Bool, true, cond, List, length, ℤ, pos, nat_lt}
+use Rattle.std.specs.Prelude.{◌≡◌, ℕ, ◌+◌, ◌<◌, ◌≤◌, Bool, true, cond, List, length, ℤ, pos, nat_lt}
 use Rattle.std.proofs.Math.Option.{none}
-use Rattle.std.proofs.Math.Seq.{slice}
 use Rattle.rules.specs.Lists.{any}
 use Rattle.rules.specs.Problem.{Problem, Figures, problem_of}
 use Rattle.rules.specs.Checks.{check16}
@@ -15,9 +14,9 @@ use Rattle.links.specs.Shown.{Ready, Tinted, shown}
 use Rattle.building.specs.Layout.{plan_of}
 use Rattle.building.specs.Laid.{every, Open, whole}
 
--- some item of items[a .. b] is primary
-abbrev pub primary_in : ℕ → ℕ → ℕ → List ℕ → Bool
-primary_in np a b items = any (λ i. nat_lt i np) (slice a b items)
+-- some item of an option is primary
+abbrev pub primary_in : ℕ → List ℕ → Bool
+primary_in np items = any (λ i. nat_lt i np) items
 
 -- The headers stand alone in their columns, no column has an entry, the first boundary is no entry, and no item is marked.
 pub record Cleared (n : ℕ) (heads : List ℤ) (up down marks : List ℕ) : Type 0 where
@@ -26,31 +25,30 @@ pub record Cleared (n : ℕ) (heads : List ℤ) (up down marks : List ℕ) : Typ
   pub beneath : (i : ℕ) → i ≤ n → at down i ≡ i
   pub unmarked : (i : ℕ) → i ≤ n → at marks i ≡ 0
 
--- Node x is the entry of the plan at place j of the handed lists.
+-- Node x is the entry of the plan at place j of an option's lists.
 pub record Spelled (P : Plan) (x j : ℕ) (items colours : List ℕ) : Type 0 where
   pub entry : EntryOf P x
   pub col : P.col x ≡ at items j + 1
   pub tint : P.tint x ≡ at colours j
 
--- Everything below node p + 1 is laid out, and from there on the plan has the entries at places a .. b of the handed lists.
-pub record Filling (P : Plan) (p a b : ℕ) (items colours : List ℕ) (heads : List ℤ) (up down tints : List ℕ) : Type 0 where
+-- Everything below node p + 1 is laid out, and from there on the plan has the entries of an option's lists.
+pub record Filling (P : Plan) (p : ℕ) (items colours : List ℕ) (heads : List ℤ) (up down tints : List ℕ) : Type 0 where
   pub planned : Planned P
-  pub spelled : (j : ℕ) → a ≤ j → j < b → Spelled P (p + 1 + (j - a)) j items colours
+  pub spelled : (j : ℕ) → j < length items → Spelled P (p + 1 + j) j items colours
   pub so_far : Open P 0 (p + 1) heads up down tints
 
--- Option k is next, behind the boundary p: it has the entries at places a .. b if one of them is primary.
-pub record Turn (P : Plan) (np k p a b : ℕ) (items colours : List ℕ) (heads : List ℤ) (up down tints : List ℕ) : Type 0 where
+-- Option k is next, behind the boundary p: the plan has the entries of its lists if one of them is primary.
+pub record Turn (P : Plan) (np k p : ℕ) (items colours : List ℕ) (heads : List ℤ) (up down tints : List ℕ) : Type 0 where
   pub planned : Planned P
   pub option : k < P.M
   pub first : P.first k ≡ p + 1
-  pub past : primary_in np a b items ≡ true → P.past k ≡ p + 1 + (b - a)
-  pub some : primary_in np a b items ≡ true → a < b
-  pub spelled : primary_in np a b items ≡ true → (j : ℕ) → a ≤ j → j < b → Spelled P (p + 1 + (j - a)) j items colours
+  pub past : primary_in np items ≡ true → P.past k ≡ p + 1 + length items
+  pub spelled : primary_in np items ≡ true → (j : ℕ) → j < length items → Spelled P (p + 1 + j) j items colours
   pub so_far : Open P 0 (p + 1) heads up down tints
 
 -- the boundary behind it, where the next option is to go
-abbrev pub behind : ℕ → ℕ → ℕ → ℕ → List ℕ → ℕ
-behind np p a b items = cond (primary_in np a b items) (p + 1 + (b - a)) p
+abbrev pub behind : ℕ → ℕ → List ℕ → ℕ
+behind np p items = cond (primary_in np items) (p + 1 + length items) p
 
 -- What is handed in is accepted, and the lists are long enough: four of at least n + 2 + E + M numbers and one of at least n + 1.
 pub record Buildable (f : Figures) (np ns n : ℕ) (items colours ends : List ℕ) (heads : List ℤ) (up down tints marks : List ℕ) : Type 0 where

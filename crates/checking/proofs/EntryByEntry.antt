@@ -5,19 +5,20 @@ use native.Mathlib.Omega.{arith}
 use native.Mathlib.Numerals.{add-one}
 use mathlib.Core.Path.{◌≡◌, refl, sym, ◌∙◌}
 use mathlib.Core.Logic.{◌⊎◌, inl, inr}
-use mathlib.Core.Bool.{false, not}
+use mathlib.Core.Bool.{false, not, and-true, and-false}
 use mathlib.Core.List.{List, [], ◌∷◌}
-use mathlib.Core.Option.{none, some}
-use borrow.Author.Tests.{eq-eqb, ne_eqb}
-use lib.Dec.{T, eqb, ltb, eqb→eq, ltb→lt}
+use mathlib.Core.Option.{Option, none, some}
+use borrow.Author.Tests.{eq-eqb, ne_eqb, lt-ltb, le-ltb}
+use lib.Dec.{T, eqb, leb, ltb, eqb→eq, ltb→lt}
 use lib.ListN.{length, get_or, set}
 use lib.Seq.{slice, slice_empty, get_or-set_same, get_or-set_other}
+use Rattle.std.proofs.lemmas.Bool.Decides.{nat_tests}
 use mir.Facts.{T_not-not}
 use Rattle.rules.specs.Lists.{mem}
 use Rattle.rules.specs.Problem.{Entry, entries_of}
 use Rattle.rules.specs.Checks.{Refusal, refuse, check_entry, check_option}
 use Rattle.theorems.proofs.Words.Tests.{T-dec, neqb→ne}
-use Rattle.theorems.proofs.Words.Choices.{or_else-none}
+use Rattle.theorems.proofs.Words.Choices.{or_else-nothing, or_else-none}
 use Rattle.theorems.proofs.Checks.Accept.{refuse-none}
 use Rattle.checking.specs.Marks.{Marked, Below}
 
@@ -32,6 +33,37 @@ entries-cons [] cs e j (suc b) h l = absurd (omega arith)
 entries-cons (i ∷ is) [] e j (suc b) h l = absurd (omega arith)
 entries-cons (i ∷ is) (c ∷ cs) e zero (suc b) h l = refl
 entries-cons (i ∷ is) (c ∷ cs) e (suc j) (suc b) h l = entries-cons is cs (omega arith) j b (omega arith) (omega arith)
+
+-- The checks of one entry, as the program makes them
+module _ (np n most i : ℕ) (seen : List ℕ) (item colour : ℕ) where
+  abbrev told : Option Refusal
+  told = check_entry np n most i seen (entry item colour)
+
+  at-least : leb n item ≡ not (ltb item n)
+  at-least = grind (arith, nat_tests)
+
+  pub told-19 : (r : Refusal) → refuse 19 i (leb n item) ≡ some r → told ≡ some r
+  unfolding check_entry
+  told-19 r e = rw (← at-least, e)
+
+  module _ (a : refuse 19 i (leb n item) ≡ none) where
+    pub told-20 : (r : Refusal) → refuse 20 i (ltb most colour) ≡ some r → told ≡ some r
+    unfolding check_entry
+    told-20 r e = rw (← at-least, a, e)
+
+    pub told-21 : 0 < colour → refuse 20 i (ltb most colour) ≡ none → (r : Refusal) → refuse 21 i (ltb item np) ≡ some r → told ≡ some r
+    unfolding check_entry
+    told-21 h b r e = rw (← at-least, a, b, lt-ltb 0 colour h, and-true (ltb item np), e)
+
+    -- with a colour, behind 20 and 21
+    pub told-coloured : 0 < colour → refuse 20 i (ltb most colour) ≡ none → refuse 21 i (ltb item np) ≡ none → told ≡ refuse 22 i (mem item seen)
+    unfolding check_entry
+    told-coloured h b e = rw (← at-least, a, b, lt-ltb 0 colour h, and-true (ltb item np), e) (or_else-nothing (refuse 22 i (mem item seen)))
+
+    -- without one neither refuses
+    pub told-plain : colour ≤ 0 → told ≡ refuse 22 i (mem item seen)
+    unfolding check_entry
+    told-plain h = rw (← at-least, a, le-ltb most colour (omega arith), le-ltb 0 colour h, and-false (ltb item np)) (or_else-nothing (refuse 22 i (mem item seen)))
 
 -- an item that passes is one of the n
 pub item-below : (np n most i : ℕ) (seen : List ℕ) (item colour : ℕ) → check_entry np n most i seen (entry item colour) ≡ none → item < n

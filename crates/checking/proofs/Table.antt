@@ -1,20 +1,16 @@
 -- The whole table: checks 10 to 15 as the problem's own type makes them, and behind them 16, 17, 18, and 19 to 22. Assumes nothing.
 use Prim.Native.Nat.{ℕ, ◌+◌, ◌≤◌}
-use native.Mathlib.Omega.{arith}
 use mathlib.Core.Path.{◌≡◌, refl, ◌∙◌}
-use mathlib.Core.Bool.{Bool, true, false, not, ◌||◌}
+use mathlib.Core.Bool.{Bool, not, ◌||◌}
 use mathlib.Core.List.{List, [], ◌∷◌, ◌++◌}
 use mathlib.Core.Option.{Option, none, some}
 use lib.Dec.{T, ltb, eqb, eqb→eq, nltb→le}
 use lib.ListN.{length}
 use mir.Facts.{T_not-not}
-use Rattle.rules.specs.declared.problem.Problem.{Problem}
-use Rattle.rules.specs.declared.problem.Sized.{Sized}
-use Rattle.rules.specs.declared.problem.Sized.TheVariants.{Fits, Refused}
 use Rattle.rules.specs.Lists.{or_else, first_of}
 use Rattle.rules.specs.Problem.{Figures, entries_of, cut}
 use Rattle.rules.specs.Checks.{Refusal, Handed, refuse, check16, short_room, short_results, check_options, size_checks, refusal_of}
-use Rattle.rules.specs.Sizing.{sized_as, sizing}
+use Rattle.rules.specs.Sizing.{sizing}
 use Rattle.theorems.proofs.Words.Tests.{T-nor}
 use Rattle.theorems.proofs.Words.Choices.{or_else-assoc, or_else-nothing, or_else-none}
 use Rattle.theorems.proofs.Checks.Accept.{refuse-none}
@@ -22,27 +18,6 @@ use Rattle.theorems.proofs.Checks.Accept.{refuse-none}
 first-append : (xs ys : List (Option Refusal)) → first_of (xs ++ ys) ≡ or_else (first_of xs) (first_of ys)
 first-append [] ys = refl
 first-append (x ∷ xs) ys = rw (first-append xs ys) (or_else-assoc x (first_of xs) (first_of ys))
-
--- none, or one at place 0
-abbrev AtZero : Option Refusal → Type 0
-AtZero none = Unit
-AtZero (some r) = r.place ≡ 0
-
-check-zero : (number : ℕ) (b : Bool) (rest : Option Refusal) → AtZero rest → AtZero (or_else (refuse number 0 b) rest)
-check-zero number true rest z = refl
-check-zero number false rest z = z
-
--- What the problem's own type answers says which refusal comes first.
-refused-first : (o : Option Refusal) (counts : Problem) (number : ℕ) → AtZero o → sized_as o counts ≡ Refused number → o ≡ some (record { number = number; place = 0 })
-refused-first none counts number z e = let k : ◌≡◌ {A = ℕ} 0 1 = cc in absurd (omega arith)
-refused-first (some r) counts number z e = same r.number r.place (cc) z
-  where
-    same : (a b : ℕ) → a ≡ number → b ≡ 0 → ◌≡◌ {A = Option Refusal} (some (record { number = a; place = b })) (some (record { number = number; place = 0 }))
-    same a b p q = rw (p, q)
-
-fits-none : (o : Option Refusal) (counts p : Problem) → sized_as o counts ≡ Fits p → o ≡ none
-fits-none none counts p e = refl
-fits-none (some r) counts p e = let k : ◌≡◌ {A = ℕ} 0 1 = cc in absurd (omega arith)
 
 -- Counts that checks 10 to 15 leave.
 pub record Sizes (f : Figures) (ragged : Bool) (np ns M E C : ℕ) : Type 0 where
@@ -54,34 +29,14 @@ pub record Sizes (f : Figures) (ragged : Bool) (np ns M E C : ℕ) : Type 0 wher
 
 -- checks 10 to 15, of lists that are handed in
 abbrev pub size_refusal : Figures → Bool → ℕ → ℕ → List ℕ → List ℕ → List ℕ → Option Refusal
-size_refusal f ragged np ns items colours ends =
-    first_of (size_checks f np ns (length ends) (length items) (ragged || not (eqb (length items) (length colours))))
-
-abbrev pub sized_lists : Figures → Bool → ℕ → ℕ → List ℕ → List ℕ → List ℕ → Sized
-sized_lists f ragged np ns items colours ends = sizing f np ns (length ends) (length items) (ragged || not (eqb (length items) (length colours)))
+size_refusal f ragged np ns items colours ends = sizing f np ns (length ends) (length items) (ragged || not (eqb (length items) (length colours)))
 
 module _ (f : Figures) (ragged : Bool) (np ns : ℕ) (items colours ends : List ℕ) where
-  size-zero : AtZero (size_refusal f ragged np ns items colours ends)
-  size-zero =
-      check-zero 10 (eqb np 0) _
-      (check-zero 11 (ltb f.items (np + ns)) _
-      (check-zero 12 (eqb (length ends) 0) _
-      (check-zero 13 (ltb f.options (length ends)) _
-      (check-zero 14 (ragged || not (eqb (length items) (length colours))) _
-      (check-zero 15 (ltb f.entries (length items)) none tt)))))
-
-  size-refused : (number : ℕ) → sized_lists f ragged np ns items colours ends ≡ Refused number → size_refusal f ragged np ns items colours ends ≡ some (record { number = number; place = 0 })
+  pub sizes : size_refusal f ragged np ns items colours ends ≡ none → Sizes f ragged np ns (length ends) (length items) (length colours)
   unfolding sizing
-  size-refused number e = refused-first (size_refusal f ragged np ns items colours ends) _ number size-zero e
-
-  size-passed : (p : Problem) → sized_lists f ragged np ns items colours ends ≡ Fits p → size_refusal f ragged np ns items colours ends ≡ none
-  unfolding sizing
-  size-passed p e = fits-none (size_refusal f ragged np ns items colours ends) _ p e
-
-  pub sizes : (p : Problem) → sized_lists f ragged np ns items colours ends ≡ Fits p → Sizes f ragged np ns (length ends) (length items) (length colours)
-  sizes p e =
+  sizes e =
       let alike = eqb (length items) (length colours) in
-      let a = or_else-none (refuse 10 0 (eqb np 0)) _ (size-passed p e) in
+      let a = or_else-none (refuse 10 0 (eqb np 0)) _ e in
       let b = or_else-none (refuse 11 0 (ltb f.items (np + ns))) _ a.1 in
       let c = or_else-none (refuse 12 0 (eqb (length ends) 0)) _ b.1 in
       let d = or_else-none (refuse 13 0 (ltb f.options (length ends))) _ c.1 in
@@ -107,30 +62,27 @@ module _ (f : Figures) (ragged : Bool) (h : Handed) where
       ∷ []
 
   table : refusal_of f ragged h ≡ or_else (size_refusal f ragged h.np h.ns h.items h.colours h.ends) (first_of later)
-  unfolding refusal_of
+  unfolding refusal_of sizing
   table = first-append (size_checks f h.np h.ns (length h.ends) (length h.items) (ragged || not (eqb (length h.items) (length h.colours)))) later
 
-  pub at-sizes : (number : ℕ) → sized_lists f ragged h.np h.ns h.items h.colours h.ends ≡ Refused number
-      → refusal_of f ragged h ≡ some (record { number = number; place = 0 })
-  at-sizes number e = table ∙ rw (size-refused f ragged h.np h.ns h.items h.colours h.ends number e)
+  pub at-sizes : (r : Refusal) → size_refusal f ragged h.np h.ns h.items h.colours h.ends ≡ some r → refusal_of f ragged h ≡ some r
+  at-sizes r e = table ∙ rw e
 
-  module _ (p : Problem) (s : sized_lists f ragged h.np h.ns h.items h.colours h.ends ≡ Fits p) where
+  module _ (s : size_refusal f ragged h.np h.ns h.items h.colours h.ends ≡ none) where
     fit : refusal_of f ragged h ≡ first_of later
-    fit = table ∙ rw (size-passed f ragged h.np h.ns h.items h.colours h.ends p s)
+    fit = table ∙ rw s
 
     pub at-ends : (r : Refusal) → check16 (length h.items) h.ends ≡ some r → refusal_of f ragged h ≡ some r
     at-ends r e = fit ∙ rw e
 
     module _ (e : check16 (length h.items) h.ends ≡ none) where
-      pub at_room : short_room (h.np + h.ns) (length h.items) (length h.ends) h.room ≡ true
-          → refusal_of f ragged h ≡ some (record { number = 17; place = 0 })
-      at_room t = fit ∙ rw (e, t)
+      pub at_room : (r : Refusal) → refuse 17 0 (short_room (h.np + h.ns) (length h.items) (length h.ends) h.room) ≡ some r → refusal_of f ragged h ≡ some r
+      at_room r t = fit ∙ rw (e, t)
 
-      module _ (t : short_room (h.np + h.ns) (length h.items) (length h.ends) h.room ≡ false) where
-        pub at_results : short_results (h.np + h.ns) (length h.items) (length h.ends) h.results ≡ true
-            → refusal_of f ragged h ≡ some (record { number = 18; place = 0 })
-        at_results u = fit ∙ rw (e, t, u)
+      module _ (t : refuse 17 0 (short_room (h.np + h.ns) (length h.items) (length h.ends) h.room) ≡ none) where
+        pub at_results : (r : Refusal) → refuse 18 0 (short_results (h.np + h.ns) (length h.items) (length h.ends) h.results) ≡ some r → refusal_of f ragged h ≡ some r
+        at_results r u = fit ∙ rw (e, t, u)
 
-        pub at-entries : short_results (h.np + h.ns) (length h.items) (length h.ends) h.results ≡ false
+        pub at-entries : refuse 18 0 (short_results (h.np + h.ns) (length h.items) (length h.ends) h.results) ≡ none
             → refusal_of f ragged h ≡ check_options h.np (h.np + h.ns) f.colour 0 (cut 0 h.ends (entries_of h.items h.colours))
         at-entries u = fit ∙ rw (e, t, u) (or_else-nothing (check_options h.np (h.np + h.ns) f.colour 0 (cut 0 h.ends (entries_of h.items h.colours))))

@@ -1,4 +1,3 @@
-pub mod Checked
 pub mod Marks
 pub mod Checkable
 pub mod Lent

@@ -1,36 +1,21 @@
 // Check 16, of the ends of the options.
 ghost use Rattle.std.specs.Prelude.{◌≡◌, ◌<◌, length};
 ghost use Rattle.rules.specs.Checks.{check16};
-ghost use Rattle.checking.specs.Checked.{refusal_in};
+ghost use Rattle.rules.specs.Refusals.{refusal_in};
 
-use crate::check::Check;
+use rules::refusal::{Check, Refusal, refuse_if};
 
 // The first option whose end is below the one before it or above the count of entries; else, if the last end isn't that count, the last.
-pub fn check_ends(ends: &[u32], entries: usize) -> Check
+pub fn check_ends(ends: &[u32], entries: usize) -> Result<(), Refusal>
     requires { length ends.now < 4294967296 }
     ensures { refusal_in result ≡ check16 entries ends.now }
 {
-    let mut before: usize = 0;
-    // the option seen last, 0 if there is none
-    let mut last: u32 = 0;
-    let mut k = 0;
-    while k < ends.len() {
-        let end = ends[k] as usize;
-        last = k as u32;
-        if (end < before) | (entries < end) {
-            return Check::Refused {
-                number: 16,
-                place: last,
-            };
-        }
+    let mut before = 0;
+    for (k, end) in ends.iter().enumerate() {
+        let end = *end as usize;
+        refuse_if((end < before) | (entries < end), Check::WrongEnd, k as u32)?;
         before = end;
-        k += 1;
     }
-    if before != entries {
-        return Check::Refused {
-            number: 16,
-            place: last,
-        };
-    }
-    Check::Passed
+    let last = ends.len().saturating_sub(1);
+    refuse_if(before != entries, Check::WrongEnd, last as u32)
 }

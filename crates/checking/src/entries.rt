@@ -6,127 +6,83 @@ ghost use Rattle.std.specs.Prelude.{◌≡◌, List, [], ℕ, ◌+◌, ◌<◌, 
 ghost use Rattle.std.proofs.Math.Seq.{slice};
 ghost use Rattle.rules.specs.Problem.{entries_of, cut};
 ghost use Rattle.rules.specs.Checks.{check_entry, check_option, check_options};
-ghost use Rattle.checking.specs.Checked.{refusal_in};
+ghost use Rattle.rules.specs.Refusals.{refusal_in};
 ghost use Rattle.checking.specs.Marks.{Marked, Below};
 ghost use Rattle.checking.specs.Checkable.{Checkable};
 
-use crate::check::Check;
+use rules::refusal::{Check, Refusal, refuse_if};
 
-// The entry at a place, with its item and colour; `most` is the highest colour, and `mark` that of the option.
+// What an entry keeps to: the count of primary items and that of all items, and the highest colour.
+#[derive(Clone, Copy, PartialEq, Eq, Debug)]
+pub struct Limits {
+    pub np: u32,
+    pub n: u32,
+    pub colour: u32,
+}
+
+// The entry at a place, with its item and colour, 0 for none, as C lends it; `mark` is that of the option.
 fn check_entry(
-    np: u32,
-    n: u32,
-    most: u32,
+    limits: Limits,
     place: u32,
     marks: &[u32],
     mark: u32,
     item: u32,
     colour: u32,
-) -> Check
-    requires { n ≤ length marks.now }
-    ensures { (seen : List ℕ) → Marked mark marks.now seen → refusal_in result ≡ check_entry np n most place seen (record { item = item; colour = colour }) }
+) -> Result<(), Refusal>
+    requires { limits.n ≤ length marks.now }
+    ensures { (seen : List ℕ) → Marked mark marks.now seen → refusal_in result ≡ check_entry limits.np limits.n limits.colour place seen (record { item = item; colour = colour }) }
 {
-    if item >= n {
-        return Check::Refused {
-            number: 19,
-            place: place,
-        };
-    }
-    // 20 and 21 refuse no entry without a colour
+    refuse_if(item >= limits.n, Check::NoSuchItem, place)?;
+    // a speed choice: 20 and 21 refuse no entry without a colour
     if colour > 0 {
-        if colour > most {
-            return Check::Refused {
-                number: 20,
-                place: place,
-            };
-        }
-        if item < np {
-            return Check::Refused {
-                number: 21,
-                place: place,
-            };
-        }
+        refuse_if(colour > limits.colour, Check::ColourTooHigh, place)?;
+        refuse_if(item < limits.np, Check::ColouredPrimary, place)?;
     }
-    if marks[item as usize] == mark {
-        return Check::Refused {
-            number: 22,
-            place: place,
-        };
-    }
-    Check::Passed
+    refuse_if(marks[item as usize] == mark, Check::ItemTwice, place)
 }
 
-// The option whose entries are those at a..b; `mark` is one that no item has.
+// The option whose entries are those at a..b; `mark` is one that no item has. Here and below the items and the colours come as two slices, and in no
+// struct of them: they are parts of the problem as C lends it, and a struct would be made at each call and taken apart at once.
 fn check_option(
-    np: u32,
-    n: u32,
-    most: u32,
+    limits: Limits,
     a: usize,
     b: usize,
     marks: &mut [u32],
     mark: u32,
     items: &[u32],
     colours: &[u32],
-) -> Check
-    requires n_in_bounds { (n ≤ length marks.old) × (a ≤ b) × (b ≤ length items.now) × (length items.now ≡ length colours.now) × (b < 4294967296) }
+) -> Result<(), Refusal>
+    requires n_in_bounds { (limits.n ≤ length marks.old) × (a ≤ b) × (b ≤ length items.now) × (length items.now ≡ length colours.now) × (b < 4294967296) }
     requires below { Below mark marks.old }
-    ensures answer { refusal_in result ≡ check_option np n most a [] (slice a b (entries_of items.now colours.now)) }
+    ensures answer { refusal_in result ≡ check_option limits.np limits.n limits.colour a [] (slice a b (entries_of items.now colours.now)) }
     ensures marks { Below (mark + 1) marks.new }
 {
-    let mut j = a;
-    while j < b {
+    // by place, since a refusal names the place
+    for j in a..b {
         let item = items[j];
-        let found = check_entry(np, n, most, j as u32, &*marks, mark, item, colours[j]);
-        if let Check::Refused {
-            number: _,
-            place: _,
-        } = found
-        {
-            return found;
-        }
+        check_entry(limits, j as u32, &*marks, mark, item, colours[j])?;
         marks[item as usize] = mark;
-        j += 1;
     }
-    Check::Passed
+    Ok(())
 }
 
 // All of them, option by option.
 pub fn check_entries(
-    np: u32,
-    n: u32,
-    most: u32,
+    limits: Limits,
     items: &[u32],
     colours: &[u32],
     ends: &[u32],
-) -> Check
-    requires { Checkable n items.now colours.now ends.now }
-    ensures { refusal_in result ≡ check_options np n most 0 (cut 0 ends.now (entries_of items.now colours.now)) }
+) -> Result<(), Refusal>
+    requires { Checkable limits.n items.now colours.now ends.now }
+    ensures { refusal_in result ≡ check_options limits.np limits.n limits.colour 0 (cut 0 ends.now (entries_of items.now colours.now)) }
 {
+    // fixed memory: a mark for each item that the figures allow, a number, with 0 for none
     let mut marks = [0u32; 1024];
     let mut begin = 0;
-    let mut k = 0;
-    while k < ends.len() {
-        let end = ends[k] as usize;
-        let found = check_option(
-            np,
-            n,
-            most,
-            begin,
-            end,
-            &mut marks,
-            k as u32 + 1,
-            items,
-            colours,
-        );
-        if let Check::Refused {
-            number: _,
-            place: _,
-        } = found
-        {
-            return found;
-        }
+    for (k, end) in ends.iter().enumerate() {
+        let end = *end as usize;
+        check_option(limits, begin, end, &mut marks, k as u32 + 1, items, colours)?;
         begin = end;
-        k += 1;
     }
-    Check::Passed
+    Ok(())
 }

@@ -1,8 +1,8 @@
 // Checks 10 to 22 of document 01, in the paper's order, each with its place. Nothing is written: what would be written to is known by its
-// length alone. `refusal` is the whole table; the others are its parts, and each has a `requires` that the checks before it leave.
+// length alone. `refusal` is the whole table; the others are its parts, and where one has a `requires`, the checks before it leave
+// that.
 #![tactic(auto)]
 
-pub mod check;
 pub mod ends;
 pub mod entries;
 pub mod refusal;

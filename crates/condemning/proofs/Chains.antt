@@ -18,11 +18,8 @@ use Rattle.links.specs.Shown.{Tinted}
 use Rattle.links.proofs.Stores.{same?, less?}
 use Rattle.links.proofs.Plans.{entry_row, before-no-entry}
 use Rattle.theorems.proofs.Words.Lists.{keep_append}
-use Rattle.links.proofs.Spans.{from_end}
+use Rattle.showing.proofs.Gathered.{up_to-end}
 use Rattle.condemning.specs.Search.{down_to, Chain}
-
-up-end : (k : ℕ) → up_to (suc k) ≡ up_to k ++ (k ∷ [])
-up-end k = let e : 0 + k ≡ k = omega arith in from_end 0 k ∙ ap (λ (z : ℕ). up_to k ++ (z ∷ [])) e
 
 -- Those found below a node
 
@@ -58,7 +55,7 @@ module _ (f : ℕ → Bool) where
   down-reverse (suc k) = go (f k) refl (down-reverse k)
     where
       last : (b : Bool) → f k ≡ b → keep f (up_to (suc k)) ≡ keep f (up_to k) ++ cond b (k ∷ []) []
-      last b e = ap (keep f) (up-end k) ∙ keep_append f (up_to k) (k ∷ []) ∙ ap (λ (t : Bool). keep f (up_to k) ++ cond t (k ∷ []) []) e
+      last b e = ap (keep f) (up_to-end k) ∙ keep_append f (up_to k) (k ∷ []) ∙ ap (λ (t : Bool). keep f (up_to k) ++ cond t (k ∷ []) []) e
 
       go : (b : Bool) → f k ≡ b → down_to f k ≡ reverse (keep f (up_to k)) → cond b (k ∷ down_to f k) (down_to f k) ≡ reverse (keep f (up_to (suc k)))
       go true e r = ap (λ (l : List ℕ). k ∷ l) r ∙ sym (ap reverse (last true e) ∙ reverse-append (keep f (up_to k)) (k ∷ []))

@@ -5,3 +5,4 @@ pub mod Searching
 pub mod Sparing
 pub mod Trying
 pub mod Finding
+pub mod Chained

@@ -83,28 +83,15 @@ module _ (g : Ground) (t : Tidy g) (on : ℕ → Bool) (r : ℕ) (e : EntryOf g.
             below : g.plan.col y ≢ i → y < q
             below d = let n : y ≢ q = λ s. d (ap g.plan.col s) in omega arith
 
-    -- a shortened entry marks 0, which is no column
-    pub pass-over : item_of (head g.heads q) ≡ 0 → Passing g on r (set marks 0 r) (q + 1)
-    pass-over z = record { above = omega (arith, p.above); till = omega arith; known = record { room = rw length-set p.known.room; names = names }; own = own }
+    -- a shortened entry has no item to mark
+    pub pass-over : item_of (head g.heads q) ≡ 0 → Passing g on r marks (q + 1)
+    pass-over z = record { above = omega (arith, p.above); till = omega arith; known = p.known; own = own }
       where
-        stays : (y : ℕ) → EntryOf g.plan y → at (set marks 0 r) (g.plan.col y) ≡ at marks (g.plan.col y)
-        stays y m = get_or-set_other marks 0 (g.plan.col y) r 0 (λ s. omega (arith, (W.entry y m).above, s))
-
-        names : (y : ℕ) → EntryOf g.plan y → on y ≡ true → (at (set marks 0 r) (g.plan.col y) ≡ 0 → ⊥) → HeldBy g (at (set marks 0 r) (g.plan.col y)) y
-        names y m o n = subst (λ (x : ℕ). HeldBy g x y) (sym (stays y m)) (p.known.names y m o (λ u. n (stays y m ∙ u)))
-
-        own : (y : ℕ) → r < y → y < q + 1 → head g.heads y ≡ pos (g.plan.col y) → at (set marks 0 r) (g.plan.col y) ≡ r
-        own y a c h = stays y (inside y a (omega (arith, c, b))) ∙ p.own y a (omega (arith, c, differs)) h
+        own : (y : ℕ) → r < y → y < q + 1 → head g.heads y ≡ pos (g.plan.col y) → at marks (g.plan.col y) ≡ r
+        own y a c h = p.own y a (omega (arith, c, differs)) h
           where
             differs : y ≢ q
             differs s = omega (arith, (W.entry q (inside q p.above b)).above, sym z ∙ ap (λ (x : ℕ). item_of (head g.heads x)) (sym s) ∙ ap item_of h ∙ ap g.plan.col s)
-
-    -- either way
-    pub pass-next : Passing g on r (set marks (item_of (head g.heads q)) r) (q + 1)
-    pass-next = ⊎_elim (λ z. rw z (pass-over z)) (λ n. let f = pass-item q p.above b n in rw f (pass-full f)) (same? (item_of (head g.heads q)) 0)
-
-    pub pass-mark-in : item_of (head g.heads q) < length marks
-    pass-mark-in = ⊎_elim (λ z. rw z (omega (arith, p.known.room))) (λ n. rw (pass-item q p.above b n) (omega (arith, (W.entry q (inside q p.above b)).below, p.known.room))) (same? (item_of (head g.heads q)) 0)
 
   -- at the boundary all are marked, since no full entry stands before r
   pub pass-done : ((y : ℕ) → g.on y ≡ true → on y ≡ true) → first_live g r ≡ true → (marks : List ℕ) (q : ℕ) → Passing g on r marks q → below_zero (head g.heads q) ≡ true → Marked g r marks
@@ -135,14 +122,14 @@ module _ (g : Ground) (t : Tidy g) (on : ℕ → Bool) (r : ℕ) (e : EntryOf g.
           (h.mate, h.mate-entry, h.row ∙ ap g.plan.number s, h.full, h.item)
 
 -- The same, of lists that are the ground's.
-module _ (g : Ground) (on : ℕ → Bool) (r : ℕ) (heads : List ℤ) (marks₀ : List ℕ) (m : Marking g on r heads marks₀) where
+module _ {g : Ground} {on : ℕ → Bool} {r : ℕ} {heads : List ℤ} {marks₀ : List ℕ} (m : Marking g on r heads marks₀) where
   pub mark-small : r < 1048575
   mark-small = omega (arith, entry-till g.plan m.tidy.planned r m.entry, m.entry.till, row-till g.plan m.tidy.planned r m.entry, m.tidy.planned.small)
 
   pub mark-begin : Passing g on r marks₀ (r + 1)
   mark-begin = pass-begin g m.tidy on r m.entry marks₀ m.known
 
-  module _ (marks : List ℕ) (q : ℕ) (p : Passing g on r marks q) where
+  module _ {marks : List ℕ} {q : ℕ} (p : Passing g on r marks q) where
     pub mark-in : q < length heads
     mark-in = rw m.heads-are (omega (arith, pass-in g m.tidy on r m.entry q p.till, m.tidy.heads-in))
 
@@ -150,11 +137,27 @@ module _ (g : Ground) (on : ℕ → Bool) (r : ℕ) (heads : List ℤ) (marks₀
     mark-far = omega (arith, pass-in g m.tidy on r m.entry q p.till, m.tidy.planned.small)
 
     module _ (b : below_zero (head heads q) ≡ false) where
-      pub mark-place : item_of (head heads q) < length marks
-      mark-place = rw m.heads-are (pass-mark-in g m.tidy on r m.entry marks q p (pass-entry g m.tidy on r m.entry marks q p (rw m.heads-are at b)))
+      inside-row : q < hi g.plan r
+      inside-row = pass-entry g m.tidy on r m.entry marks q p (rw m.heads-are at b)
 
-      pub mark-next : Passing g on r (set marks (item_of (head heads q)) r) (q + 1)
-      mark-next = rw m.heads-are (pass-next g m.tidy on r m.entry marks q p (pass-entry g m.tidy on r m.entry marks q p (rw m.heads-are at b)))
+      pub mark-over : item_of (head heads q) ≡ 0 → Passing g on r marks (q + 1)
+      mark-over z = pass-over g m.tidy on r m.entry marks q p inside-row (rw m.heads-are at z)
+
+      module _ (n : item_of (head heads q) ≢ 0) where
+        full-here : head g.heads q ≡ pos (g.plan.col q)
+        full-here = pass-item g m.tidy on r m.entry q p.above inside-row (rw m.heads-are at n)
+
+        item-here : item_of (head heads q) ≡ g.plan.col q
+        item-here = ap (λ (l : List ℤ). item_of (head l q)) m.heads-are ∙ ap item_of full-here
+
+        pub mark-place : item_of (head heads q) < length marks
+        mark-place = omega (arith, item-here, (m.tidy.planned.entry q (row-mate g.plan m.tidy.planned r q m.entry (omega (arith, m.entry.from, p.above)) inside-row)).below, p.known.room)
+
+        pub mark-low : item_of (head heads q) < 1048576
+        mark-low = omega (arith, item-here, m.tidy.planned.low q, mark-far)
+
+        pub mark-full : Passing g on r (set marks (item_of (head heads q)) r) (q + 1)
+        mark-full = rw item-here (pass-full g m.tidy on r m.entry marks q p inside-row full-here)
 
     pub mark-done : below_zero (head heads q) ≡ true → Known g on marks × Marked g r marks
     mark-done b = (p.known, pass-done g m.tidy on r m.entry m.wider m.first marks q p (rw m.heads-are at b))

@@ -209,39 +209,45 @@ module _ (g : Ground) (R : Ready g) (i np : ℕ) (C : Condemns np i g (down_to (
       pub next-lower : at tints (lo g.plan r - 1) < r
       next-lower = ⊎_elim (λ e. let c = subst (Chain g.plan tints (at tints (lo g.plan r - 1))) e next-chain in omega (arith, c, entry-from g.plan W r at_entry)) (λ w. let c = subst (Chain g.plan tints (at tints (lo g.plan r - 1))) w.3 next-chain in omega (arith, c.0, w.1)) (down-front (condemned_at np i g) r)
 
+-- The option of r is deleted too, and nothing was emptied: a walk back from r finds the boundary before it, and there is the next of the chain.
+pub record Onwards (g : Ground) (i np r : ℕ) (tints : List ℕ) (heads : List ℤ) (up down : List ℕ) : Type 0 where
+  pub done : List ℕ
+  pub led : Led (after g (deletes g done)) r heads down
+  pub inside : (q : ℕ) → Leads (after g (deletes g done)) r q → q < length tints
+  pub lower : (q : ℕ) → Leads (after g (deletes g done)) r q → at tints q < r
+  pub next : (q : ℕ) → Leads (after g (deletes g done)) r q → Deletes g i np tints heads up down (at tints q)
+
 -- The same, from what the call is given.
 module _ {g : Ground} {i np z : ℕ} {heads₀ : List ℤ} {up₀ down₀ tints : List ℕ} (s : Sparing g i np z heads₀ up₀ down₀ tints) where
   pub spare-begin : Deletes g i np tints heads₀ up₀ down₀ z
   spare-begin = deletes-begin g s.ready i np s.condemns s
 
-  module _ {heads : List ℤ} {up down : List ℕ} {r : ℕ} (d : Deletes g i np tints heads up down r) where
-    pub spare-end : r ≡ 0 → Deleted g np (deletes g (down_to (condemned_at np i g) g.plan.N)) heads up down 0
-    spare-end e = deletes-end g s.ready i np s.condemns d e
+  pub spare-end : {heads : List ℤ} {up down : List ℕ} → Deletes g i np tints heads up down 0 → Deleted g np (deletes g (down_to (condemned_at np i g) g.plan.N)) heads up down 0
+  spare-end d = deletes-end g s.ready i np s.condemns d refl
 
-    module _ (n : r ≢ 0) where
-      pub spare-deleting : Deleting (after g (deletes g d.done)) r heads up down
-      spare-deleting = at-deleting g s.ready i np s.condemns d n
+  -- where a walk back from r ends, there is the next of the chain
+  pub spare-next : {heads : List ℤ} {up down : List ℕ} {r : ℕ} (d : Deletes g i np tints heads up down r) → r ≢ 0
+      → {heads' : List ℤ} {up' down' : List ℕ} {y : ℕ} → Deleted (after g (deletes g d.done)) np (others (after g (deletes g d.done)) r ++ (r ∷ [])) heads' up' down' y → y ≡ 0
+      → {q : ℕ} → Leads (after g (deletes g (d.done ++ (r ∷ [])))) r q → Deletes g i np tints heads' up' down' (at tints q)
+  spare-next d n a e l = rw (deleted-lead g s.ready i np s.condemns d n a e l) (deletes-next g s.ready i np s.condemns d n a e)
 
-      pub spare-within : Within (after g (deletes g d.done)) r
-      spare-within = at-within g s.ready i np s.condemns d n
+  module _ {heads : List ℤ} {up down : List ℕ} {r : ℕ} (d : Deletes g i np tints heads up down r × (r ≢ 0)) where
+    pub spare-deleting : Deleting (after g (deletes g d.0.done)) r heads up down
+    spare-deleting = at-deleting g s.ready i np s.condemns d.0 d.1
 
-      module _ {heads' : List ℤ} {up' down' : List ℕ} {y : ℕ} (a : Deleted (after g (deletes g d.done)) np (others (after g (deletes g d.done)) r ++ (r ∷ [])) heads' up' down' y) where
-        pub spare-stop : y ≢ 0 → Deleted g np (deletes g (down_to (condemned_at np i g) g.plan.N)) heads' up' down' y
-        spare-stop m = deletes-stop g s.ready i np s.condemns d n a m
+    pub spare-within : Within (after g (deletes g d.0.done)) r
+    spare-within = at-within g s.ready i np s.condemns d.0 d.1
 
-        module _ (e : y ≡ 0) where
-          pub spare-led : Led (after g (deletes g (d.done ++ (r ∷ [])))) r heads' down'
-          spare-led = deleted-led g s.ready i np s.condemns d n a e
+    pub spare-stop : {heads' : List ℤ} {up' down' : List ℕ} {y : ℕ} → Deleted (after g (deletes g d.0.done)) np (others (after g (deletes g d.0.done)) r ++ (r ∷ [])) heads' up' down' y → y ≢ 0
+        → Deleted g np (deletes g (down_to (condemned_at np i g) g.plan.N)) heads' up' down' y
+    spare-stop a m = deletes-stop g s.ready i np s.condemns d.0 d.1 a m
 
-          module _ {q : ℕ} (l : Leads (after g (deletes g (d.done ++ (r ∷ [])))) r q) where
-            pub spare-in : q < length tints
-            spare-in = omega (arith, l.inside, s.tinted.room)
-
-            at-boundary : q ≡ lo g.plan r - 1
-            at-boundary = deleted-lead g s.ready i np s.condemns d n a e l
-
-            pub spare-lower : at tints q < r
-            spare-lower = rw at-boundary (next-lower g s.ready i np s.condemns d n)
-
-            pub spare-next : Deletes g i np tints heads' up' down' (at tints q)
-            spare-next = rw at-boundary (deletes-next g s.ready i np s.condemns d n a e)
+    pub spare-onwards : {heads' : List ℤ} {up' down' : List ℕ} → Deleted (after g (deletes g d.0.done)) np (others (after g (deletes g d.0.done)) r ++ (r ∷ [])) heads' up' down' 0
+        → Onwards g i np r tints heads' up' down'
+    spare-onwards {heads'} {up'} {down'} a = record {
+      done = d.0.done ++ (r ∷ []);
+      led = deleted-led g s.ready i np s.condemns d.0 d.1 a refl;
+      inside = λ q l. omega (arith, l.inside, s.tinted.room);
+      lower = λ q l. rw (deleted-lead g s.ready i np s.condemns d.0 d.1 a refl l) (next-lower g s.ready i np s.condemns d.0 d.1);
+      next = λ q l. spare-next d.0 d.1 a refl l;
+    }

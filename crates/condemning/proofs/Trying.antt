@@ -15,7 +15,7 @@ use Rattle.links.specs.Plan.{EntryOf}
 use Rattle.links.specs.Ground.{Ground, Holds}
 use Rattle.links.specs.Row.{first_live}
 use Rattle.links.specs.Taking.{node_blocked, Marked}
-use Rattle.links.proofs.Plans.{entry-till}
+use Rattle.links.proofs.Plans.{entry-from, entry-till}
 use Rattle.links.proofs.Descending.{column→, on-entry}
 use Rattle.showing.specs.Showing.{condemned_at}
 use Rattle.showing.proofs.HiddenStates.{hiding, hiding-tidy}
@@ -26,12 +26,23 @@ use Rattle.condemning.specs.Search.{Chain, Tried, Trying}
 use Rattle.condemning.proofs.Searching.{hidden-known, hidden-holds, search-led, search-marking, search-tested, led-first, led-before, coloured-not, later-not, tested-is, tried-not, tried-yes}
 use Rattle.condemning.proofs.Sparing.{down-front}
 
+-- The option of r is tested: the node q leads it and has no item, r is uncoloured, and its items are marked.
+pub record Testing (g : Ground) (i r q : ℕ) (heads : List ℤ) (tints marks : List ℕ) : Type 0 where
+  pub leads : Leads (hiding g i) r q
+  pub plain : at tints r ≡ 0
+  pub first : item_of (head heads q) ≡ 0
+  pub known : Known (hiding g i) g.on marks
+  pub marked : Marked (hiding g i) r marks
+
 module _ {g : Ground} {i r first np z : ℕ} {heads : List ℤ} {up down tints marks : List ℕ} (t : Trying g i r first np z heads up down tints marks) where
   entry : EntryOf g.plan r
   entry = on-entry g t.ready.tidy r (column→ g (i + 1) r t.column).0 (column→ g (i + 1) r t.column).2
 
   inside : r < g.plan.N
   inside = entry-till g.plan t.ready.tidy.planned r entry
+
+  pub try-node : r ≢ 0
+  try-node = omega (arith, entry-from g.plan t.ready.tidy.planned r entry)
 
   pub try-tints : r < length tints
   try-tints = omega (arith, inside, t.tried.tinted.room)
@@ -55,34 +66,36 @@ module _ {g : Ground} {i r first np z : ℕ} {heads : List ℤ} {up down tints m
     pub try-later : item_of (head heads q) ≢ 0 → Tried g i np (r + 1) z tints marks
     try-later n = tried-not g t.ready i r t.column np (later-not g t.ready i r t.column np (sym first-is ∙ ne_eqb (item_of (head heads q)) 0 n)) t.tried
 
-    module _ (e : at tints r ≡ 0) (f : item_of (head heads q) ≡ 0) where
-      live : first_live g r ≡ true
-      live = sym first-is ∙ eq-eqb (item_of (head heads q)) 0 f
+    live : item_of (head heads q) ≡ 0 → first_live g r ≡ true
+    live f = sym first-is ∙ eq-eqb (item_of (head heads q)) 0 f
 
-      plain : g.plan.tint r ≡ 0
-      plain = sym (t.tried.tinted.tint r entry) ∙ e
-
-      pub try-marking : Marking (hiding g i) g.on r heads marks
-      try-marking = search-marking g t.ready i r t.column t.holds live marks t.tried.known
-
-      module _ {marks' : List ℕ} (k : Known (hiding g i) g.on marks') where
-        marked-tried : Tried g i np r z tints marks'
-        marked-tried = record { tinted = t.tried.tinted; known = hidden-known g t.ready i marks' k; chain = t.tried.chain }
-
-        -- the test
-        pub try-test : Marked (hiding g i) r marks' → Test (hiding g i) tints marks' r first np
-        try-test m = record { tested = search-tested g t.ready i r t.column plain; tinted = t.tried.tinted; marked = m; starts = t.begins; few = t.few }
-
-        pub try-no : node_blocked (hiding g i) r np ≡ false → Tried g i np (r + 1) z tints marks'
-        try-no b = tried-not g t.ready i r t.column np (tested-is g t.ready i r t.column np plain live ∙ b) marked-tried
-
-        pub try-yes : node_blocked (hiding g i) r np ≡ true → Tried g i np (r + 1) r (set tints q z) marks'
-        try-yes b =
-            subst (λ (x : ℕ). Tried g i np (r + 1) r (set tints x z) marks') (sym (led-before g t.ready i r t.column l live))
-            (tried-yes g t.ready i r t.column np (tested-is g t.ready i r t.column np plain live ∙ b) marked-tried)
+    pub try-marking : item_of (head heads q) ≡ 0 → Marking (hiding g i) g.on r heads marks
+    try-marking f = search-marking g t.ready i r t.column t.holds (live f) marks t.tried.known
 
     pub try-place : q < length tints
     try-place = omega (arith, l.inside, t.tried.tinted.room)
+
+  -- the test
+  module _ {q : ℕ} {marks' : List ℕ} (x : Testing g i r q heads tints marks') where
+    plain : g.plan.tint r ≡ 0
+    plain = sym (t.tried.tinted.tint r entry) ∙ x.plain
+
+    tested : condemned_at np i g r ≡ node_blocked (hiding g i) r np
+    tested = tested-is g t.ready i r t.column np plain (live x.leads x.first)
+
+    marked-tried : Tried g i np r z tints marks'
+    marked-tried = record { tinted = t.tried.tinted; known = hidden-known g t.ready i marks' x.known; chain = t.tried.chain }
+
+    pub try-test : Test (hiding g i) tints marks' r first np
+    try-test = record { tested = search-tested g t.ready i r t.column plain; tinted = t.tried.tinted; marked = x.marked; starts = t.begins; few = t.few }
+
+    pub try-no : node_blocked (hiding g i) r np ≡ false → Tried g i np (r + 1) z tints marks'
+    try-no b = tried-not g t.ready i r t.column np (tested ∙ b) marked-tried
+
+    pub try-yes : node_blocked (hiding g i) r np ≡ true → Tried g i np (r + 1) r (set tints q z) marks'
+    try-yes b =
+        subst (λ (y : ℕ). Tried g i np (r + 1) r (set tints y z) marks') (sym (led-before g t.ready i r t.column x.leads (live x.leads x.first)))
+        (tried-yes g t.ready i r t.column np (tested ∙ b) marked-tried)
 
   pub try_holds : Holds (hiding g i) heads up down
   try_holds = hidden-holds g t.ready i t.holds

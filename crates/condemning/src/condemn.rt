@@ -1,113 +1,87 @@
 // Which options that begin with c are blocked, and their deletion.
 ghost use Rattle.std.specs.Prelude.{◌≡◌, ℕ, ◌+◌};
+ghost use Rattle.links.specs.Ending.{ending};
 ghost use Rattle.links.specs.Ground.{Ground};
+ghost use Rattle.links.specs.Nodes.{in_nodes, SameNodes, Untouched, column};
 ghost use Rattle.removing.specs.Deleting.{Deleted};
 ghost use Rattle.showing.specs.Showing.{deletes, condemned_at};
 ghost use Rattle.condemning.specs.Search.{down_to, Search, Hiding, Tried, Trying, Sparing};
 
+use crate::chain::{chain, chained};
 use crate::mark::mark_items;
-use links::column::{link, put_link};
-use links::head::item_at;
-use links::lead::lead;
+use links::emptied::Emptied;
+use links::nodes::Nodes;
 use removing::delete::really_delete_option;
 use testing::blocked::blocked;
 
 // Tests the option of node r of column c, if r is its first live entry and uncoloured. A blocked one goes to the front of the chain.
 fn test_at(
-    heads: &mut [i32],
-    up: &mut [u32],
-    down: &mut [u32],
+    nodes: &mut Nodes,
     tints: &mut [u32],
     marks: &mut [u32],
     r: usize,
-    start: usize,
-    np: usize,
-    stack: usize,
-) -> usize
-    requires { (g : Ground) × (i : ℕ) × Trying g i r start np stack heads.old up.old down.old tints.old marks.old }
-    ensures same { (heads.new ≡ heads.old) × (up.new ≡ up.old) × (down.new ≡ down.old) }
-    ensures found { (g : Ground) (i : ℕ) → Trying g i r start np stack heads.old up.old down.old tints.old marks.old
-        → Tried g i np (r + 1) result tints.new marks.new }
+    stack: Option<usize>,
+) -> Option<usize>
+    requires { (g : Ground) × (i z : ℕ) × (stack ≡ column z)
+        × in_nodes (Trying g i r nodes.old.start nodes.old.np z) nodes.old tints.old marks.old }
+    ensures nodes { SameNodes nodes.old nodes.new }
+    ensures same { Untouched nodes.old nodes.new }
+    ensures found { (g : Ground) (i z : ℕ) → stack ≡ column z
+        → in_nodes (Trying g i r nodes.old.start nodes.old.np z) nodes.old tints.old marks.old
+        → (w : ℕ) × (result ≡ column w) × Tried g i nodes.old.np (r + 1) w tints.new marks.new }
 {
-    if link(&*tints, r) != 0 {
+    if tints[r] != 0 {
         return stack;
     }
-    let q = lead(&*heads, &*down, r);
-    if item_at(&*heads, q) != 0 {
+    let q = nodes.lead(r);
+    if nodes.item(q).is_some() {
         return stack;
     }
-    mark_items(&*heads, &mut *marks, r);
-    if blocked(
-        &mut *heads,
-        &mut *up,
-        &mut *down,
-        &*tints,
-        &*marks,
-        r,
-        start,
-        np,
-    ) {
-        put_link(&mut *tints, q, stack);
-        return r;
+    mark_items(nodes, marks, r);
+    if blocked(nodes, tints, marks, r) {
+        chain(tints, q, stack);
+        return Some(r);
     }
     stack
 }
 
-// All tests for item c, while it is hidden; the last option found blocked, or 0.
-pub fn condemn(
-    heads: &mut [i32],
-    up: &mut [u32],
-    down: &mut [u32],
-    tints: &mut [u32],
-    marks: &mut [u32],
-    c: usize,
-    start: usize,
-    np: usize,
-) -> usize
-    requires { (g : Ground) × (i : ℕ) × Search g i c start np × Hiding g i heads.old up.old down.old tints.old marks.old }
-    ensures same { (heads.new ≡ heads.old) × (up.new ≡ up.old) × (down.new ≡ down.old) }
-    ensures found { (g : Ground) (i : ℕ) → Search g i c start np → Hiding g i heads.old up.old down.old tints.old marks.old
-        → Tried g i np g.plan.N result tints.new marks.new }
+// All tests for item c, while it is hidden; the last option found blocked.
+pub fn condemn(nodes: &mut Nodes, tints: &mut [u32], marks: &mut [u32], c: usize) -> Option<usize>
+    requires { (g : Ground) × (i : ℕ) × Search g i c nodes.old.start nodes.old.np
+        × in_nodes (Hiding g i) nodes.old tints.old marks.old }
+    ensures nodes { SameNodes nodes.old nodes.new }
+    ensures same { Untouched nodes.old nodes.new }
+    ensures found { (g : Ground) (i : ℕ) → Search g i c nodes.old.start nodes.old.np
+        → in_nodes (Hiding g i) nodes.old tints.old marks.old
+        → (w : ℕ) × (result ≡ column w) × Tried g i nodes.old.np g.plan.N w tints.new marks.new }
 {
-    let mut stack = 0;
-    let mut r = link(&*down, c);
-    while r >= start {
-        stack = test_at(
-            &mut *heads,
-            &mut *up,
-            &mut *down,
-            &mut *tints,
-            &mut *marks,
-            r,
-            start,
-            np,
-            stack,
-        );
-        r = link(&*down, r);
+    let mut stack = None;
+    let mut r = nodes.below(c);
+    // down the column's links
+    while r >= nodes.start {
+        stack = test_at(nodes, tints, marks, r, stack);
+        r = nodes.below(r);
     }
     stack
 }
 
-// Deletes the options of the chain, the highest first; the column of the first primary item that is left in no option, or 0.
+// Deletes the options of the chain, the highest first, until a primary item is left in no option.
 pub fn delete_condemned(
-    heads: &mut [i32],
-    up: &mut [u32],
-    down: &mut [u32],
+    nodes: &mut Nodes,
     tints: &[u32],
-    stack: usize,
-    np: usize,
-) -> usize
-    requires { (g : Ground) × (i : ℕ) × Sparing g i np stack heads.old up.old down.old tints.now }
-    ensures { (g : Ground) (i : ℕ) → Sparing g i np stack heads.old up.old down.old tints.now
-        → Deleted g np (deletes g (down_to (condemned_at np i g) g.plan.N)) heads.new up.new down.new result }
+    stack: Option<usize>,
+) -> Result<(), Emptied>
+    requires { (g : Ground) × (i z : ℕ) × (stack ≡ column z)
+        × in_nodes (Sparing g i nodes.old.np z) nodes.old tints.now }
+    ensures nodes { SameNodes nodes.old nodes.new }
+    ensures deleted { (g : Ground) (i z : ℕ) → stack ≡ column z
+        → in_nodes (Sparing g i nodes.old.np z) nodes.old tints.now
+        → (w : ℕ) × (result ≡ ending w) × in_nodes (Deleted g nodes.old.np (deletes g (down_to (condemned_at nodes.old.np i g) g.plan.N))) nodes.new w }
 {
-    let mut r = stack;
-    while r != 0 {
-        let z = really_delete_option(&mut *heads, &mut *up, &mut *down, r, np);
-        if z != 0 {
-            return z;
-        }
-        r = link(tints, lead(&*heads, &*down, r));
+    let mut next = stack;
+    while let Some(r) = next {
+        really_delete_option(nodes, r)?;
+        next = chained(tints, nodes.lead(r));
     }
-    0
+    Ok(())
 }

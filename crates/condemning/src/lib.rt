@@ -2,5 +2,6 @@
 // half of `reduce_options`). The functions of this crate have a `requires`; none is a public call.
 #![tactic(auto)]
 
+pub mod chain;
 pub mod condemn;
 pub mod mark;

@@ -1,8 +1,5 @@
 -- The desk's call: its steps over plain lists. Assumes nothing.
-pub mod Tests
-pub mod HandingOver
 pub mod Solving
-pub mod Checking
 pub mod Thinning
 pub mod NeverSeventeen
 pub mod Reading

@@ -15,16 +15,18 @@ use Rattle.rules.specs.Checks.{Refusal, Results, Handed, short_room, short_resul
 use Rattle.rules.specs.State.{State}
 use Rattle.rules.specs.Rounds.{Finding, reduced, infeasible}
 use Rattle.rules.specs.Result.{kept_items, kept_options, primaries_of, secondaries_of, results_of}
-use Rattle.rules.specs.Paper.{said_refused, paper}
+use Rattle.rules.specs.Paper.{Said, said_refused, said_infeasible, paper}
 use Rattle.rules.specs.Outcome.{Outcome, cleared, fronts, said_of, concluded}
+use Rattle.rules.specs.Lent.{handed_in}
+use Rattle.rules.specs.declared.lent.Given.{Given}
 use Rattle.rules.specs.declared.answer.Answer.{Answer}
 use Rattle.rules.specs.declared.answer.Answer.TheVariants.{Reduced, Infeasible}
 use Rattle.theorems.proofs.Checks.Accept.{Passed, passed}
-use Rattle.theorems.proofs.Checks.Paper.{paper-one}
+use Rattle.theorems.proofs.Checks.Paper.{paper-one, infeasible-one}
 use Rattle.theorems.proofs.Answers.OneOutcome.{outcome-refused, outcome-found}
 use Rattle.theorems.proofs.Answers.Bounds.{Within, ReducedWithin, bounds}
 use Rattle.theorems.proofs.Answers.CompactFlat.{items-many, colours-many, ends-many}
-use Rattle.engine.specs.Call.{result_lists, handed, outcome}
+use Rattle.engine.specs.Call.{result_lists, outcome}
 use Rattle.engine.proofs.Concluding.{spacious}
 use Rattle.checking.proofs.Grow.{figures-grow}
 use Rattle.words.proofs.Counting.{fours-fit}
@@ -70,24 +72,24 @@ front-there new old e = let a = length-append new (drop (length new) old) in rw 
 
 -- The call, once no check refuses
 
-module _ (np ns cap : ℕ) (items colours ends : List ℕ) (bytes : Results) (e : refusal_of desk_figures false (handed np ns cap items colours ends desk_room (numbers_in bytes)) ≡ none) where
+module _ (given : Given ℕ) (bytes : Results) (e : refusal_of desk_figures false (handed_in given desk_room (numbers_in bytes)) ≡ none) where
   abbrev h : Handed
-  h = handed np ns cap items colours ends desk_room (numbers_in bytes)
+  h = handed_in given desk_room (numbers_in bytes)
 
   abbrev h' : Handed
-  h' = handed np ns cap items colours ends desk_room blank
+  h' = handed_in given desk_room blank
 
   P : Passed desk_figures h
   P = passed desk_figures false h e
 
   -- the core takes it, in the desk's room and with the desk's result lists
-  pub accepted : refusal_of figures false (handed np ns cap items colours ends desk_room blank) ≡ none
+  pub accepted : refusal_of figures false h' ≡ none
   accepted =
       figures-grow desk_figures figures (record { items = omega arith; options = omega arith; entries = omega arith; colour = omega arith }) false h h'
       (record { np = refl; ns = refl; items = refl; colours = refl; ends = refl })
       (record {
-        room = room-enough (np + ns) (length items) (length ends) P.items P.entries P.options;
-        results = results-enough (np + ns) (length items) (length ends) P.items P.entries P.options;
+        room = room-enough (h.np + h.ns) (length h.items) (length h.ends) P.items P.entries P.options;
+        results = results-enough (h.np + h.ns) (length h.items) (length h.ends) P.items P.entries P.options;
       }) e
 
   -- what its answer is good for
@@ -98,13 +100,13 @@ module _ (np ns cap : ℕ) (items colours ends : List ℕ) (bytes : Results) (e 
   -- the counts of a reduced answer are those of the lists that the core wrote, and the desk's byte lists hold as many
   module _ (s : State) (rounds : ℕ) (W : ReducedWithin h' s rounds) where
     abbrev n : ℕ
-    n = np + ns
+    n = h.np + h.ns
 
     abbrev new : Results
     new = results_of n s
 
     abbrev kept-count : ℕ
-    kept-count = primaries_of np (kept_items n s) + secondaries_of np (kept_items n s)
+    kept-count = primaries_of h.np (kept_items n s) + secondaries_of h.np (kept_items n s)
 
     kept-many : kept-count ≡ length new.kept
     unfolding results_of
@@ -133,7 +135,7 @@ module _ (np ns cap : ℕ) (items colours ends : List ℕ) (bytes : Results) (e 
     room_for : RoomFor kept-count (length (kept_options n s)) (length new.items) (fronts new blank) bytes
     unfolding fronts
     room_for =
-        let S = spacious n (length items) (length ends) (numbers_in bytes) P.results in
+        let S = spacious n (length h.items) (length h.ends) (numbers_in bytes) P.results in
         let i = W.items in
         let k = W.kept in
         let o = W.options in
@@ -157,9 +159,9 @@ module _ (np ns cap : ℕ) (items colours ends : List ℕ) (bytes : Results) (e 
       → outcome (paper a) (cleared desk_room) words ≡ concluded h' (reduced s rounds settled) → Done a words
   unfolding said_of
   done-reduced a words s rounds settled k o =
-      let n = np + ns in
+      let n = h.np + h.ns in
       let W = subst (Within h') k (bounds figures false h' accepted) in
-      let b : Answer = Reduced (primaries_of np (kept_items n s)) (secondaries_of np (kept_items n s)) (length (kept_options n s)) (length (results_of n s).items) rounds settled in
+      let b : Answer = Reduced (primaries_of h.np (kept_items n s)) (secondaries_of h.np (kept_items n s)) (length (kept_options n s)) (length (results_of n s).items) rounds settled in
       let ab : a ≡ b = paper-one a b (ap (λ (z : Outcome). z.said) o) in
       let ww : words ≡ fronts (results_of n s) blank = ap (λ (z : Outcome). z.results) o in
       let back : handed_back b (fronts (results_of n s) blank) bytes ≡ fronts (bytes_in (results_of n s)) bytes = ap (λ (r : Results). fronts (bytes_in r) bytes) (whole s rounds W) in
@@ -171,9 +173,10 @@ module _ (np ns cap : ℕ) (items colours ends : List ℕ) (bytes : Results) (e 
   done-infeasible : (a : Answer) (words : Results) (item cause round : ℕ) → found_of h ≡ infeasible item cause round
       → outcome (paper a) (cleared desk_room) words ≡ concluded h' (infeasible item cause round) → Done a words
   done-infeasible a words item cause round k o =
-      let b : Answer = Infeasible (record { 0 = item }) cause round in
-      let ab : a ≡ b = paper-one a b (ap (λ (z : Outcome). z.said) o) in
-      rw ab (record { handable = tt; thinned = found-served h bytes (infeasible item cause round) e k })
+      let w = infeasible-one a (ap (λ (z : Outcome). z.said) o) in
+      let b : Answer = Infeasible w.0 w.1 round in
+      let said : paper b ≡ said_infeasible item cause round = rw (w.3, w.4) refl in
+      rw w.2 (record { handable = tt; thinned = ap (λ (z : Said). serving z bytes) said ∙ found-served h bytes (infeasible item cause round) e k })
 
   pub done : (a : Answer) (words : Results) → outcome (paper a) (cleared desk_room) words ≡ concluded h' (found_of h') → Done a words
   done a words o = go (found_of h) refl

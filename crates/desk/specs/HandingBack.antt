@@ -19,7 +19,7 @@ firsts items options entries r = record {
 abbrev pub handed_back : Answer → Results → Results → Results
 handed_back (Reduced primaries secondaries options entries rounds settled) words bytes = fronts (bytes_in (firsts (primaries + secondaries) options entries words)) bytes
 handed_back (Infeasible item cause round) words bytes = bytes
-handed_back (Refused number place) words bytes = bytes
+handed_back (Refused refusal) words bytes = bytes
 
 -- so many numbers are there, and there is room for their bytes
 pub record RoomFor (items options entries : ℕ) (words bytes : Results) : Type 0 where
@@ -38,4 +38,4 @@ pub record RoomFor (items options entries : ℕ) (words bytes : Results) : Type 
 abbrev pub Handable : Answer → Results → Results → Type 0
 Handable (Reduced primaries secondaries options entries rounds settled) words bytes = RoomFor (primaries + secondaries) options entries words bytes
 Handable (Infeasible item cause round) words bytes = Unit {0}
-Handable (Refused number place) words bytes = Unit {0}
+Handable (Refused refusal) words bytes = Unit {0}

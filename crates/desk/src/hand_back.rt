@@ -1,52 +1,35 @@
 // The result, from numbers to bytes.
 ghost use Rattle.std.specs.Prelude.{◌≡◌};
-ghost use Rattle.engine.specs.Call.{result_lists};
+ghost use Rattle.rules.specs.Lent.{SameResults, results_in};
 ghost use Rattle.desk.specs.HandingBack.{handed_back, Handable};
 
 use rules::answer::Answer;
+use rules::lent::Results;
 use words::write_words;
 
 // Writes the fronts of the five lists that a reduced answer counts; any other answer has no result.
-pub fn hand_back(
-    answer: Answer,
-    kept_words: &[u32],
-    end_words: &[u32],
-    number_words: &[u32],
-    item_words: &[u32],
-    colour_words: &[u32],
-    kept: &mut [u8],
-    ends: &mut [u8],
-    numbers: &mut [u8],
-    items: &mut [u8],
-    colours: &mut [u8],
-)
-    requires { Handable answer (result_lists kept_words.now end_words.now number_words.now item_words.now colour_words.now) (result_lists kept.old ends.old numbers.old items.old colours.old) }
-    ensures { result_lists kept.new ends.new numbers.new items.new colours.new
-        ≡ handed_back answer (result_lists kept_words.now end_words.now number_words.now item_words.now colour_words.now) (result_lists kept.old ends.old numbers.old items.old colours.old) }
+#[tactic(auto, unfolding(rules::specs::Outcome::fronts))]
+pub fn hand_back(answer: Answer, words: &Results<u32>, results: &mut Results<u8>)
+    requires { Handable answer (results_in words.now) (results_in results.old) }
+    ensures lists { SameResults results.old results.new }
+    ensures handed { results_in results.new ≡ handed_back answer (results_in words.now) (results_in results.old) }
 {
+    // not `if let`: its `else` knows less of the answer
     match answer {
         Answer::Reduced {
             primaries,
             secondaries,
             options,
             entries,
-            rounds: _,
-            settled: _,
+            ..
         } => {
-            write_words(kept_words, (primaries + secondaries) as usize, &mut *kept);
-            write_words(end_words, options as usize, &mut *ends);
-            write_words(number_words, options as usize, &mut *numbers);
-            write_words(item_words, entries as usize, &mut *items);
-            write_words(colour_words, entries as usize, &mut *colours);
+            write_words(words.kept, (primaries + secondaries) as usize, results.kept);
+            write_words(words.ends, options as usize, results.ends);
+            write_words(words.numbers, options as usize, results.numbers);
+            write_words(words.items, entries as usize, results.items);
+            write_words(words.colours, entries as usize, results.colours);
         }
-        Answer::Infeasible {
-            item: _,
-            cause: _,
-            round: _,
-        } => {}
-        Answer::Refused {
-            number: _,
-            place: _,
-        } => {}
+        Answer::Infeasible { .. } => {}
+        Answer::Refused(_) => {}
     }
 }

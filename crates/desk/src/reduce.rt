@@ -1,128 +1,77 @@
 // The desk's call over bytes.
 ghost use Rattle.std.specs.Prelude.{◌≡◌, ◌≤◌, false, length};
+ghost use Rattle.rules.specs.Lent.{SameResults, results_in};
 ghost use Rattle.rules.specs.Paper.{paper};
-ghost use Rattle.engine.specs.Call.{result_lists};
 ghost use Rattle.words.specs.Bytes.{numbers_of};
 ghost use Rattle.desk.specs.Desk.{any_ragged, handed_bytes, serving, served, desk_outcome};
 
 use crate::thin::{desk_figures, thin};
 use rules::answer::Answer;
-use rules::problem::{Problem, Sized};
-use words::{count, is_ragged, read_words};
+use rules::lent::{Given, Results};
+use rules::problem::Problem;
+use words::{count, read_words};
 
 // Some byte list has a length that is no multiple of four.
-pub fn any_ragged(
-    items: &[u8],
-    colours: &[u8],
-    ends: &[u8],
-    kept: &[u8],
-    out_ends: &[u8],
-    numbers: &[u8],
-    out_items: &[u8],
-    out_colours: &[u8],
-) -> bool
-    ensures { result ≡ any_ragged items.now colours.now ends.now (result_lists kept.now out_ends.now numbers.now out_items.now out_colours.now) }
+pub fn any_ragged(given: &Given<u8>, results: &Results<u8>) -> bool
+    ensures { result ≡ any_ragged given.now.items.now given.now.colours.now given.now.ends.now (results_in results.now) }
 {
-    is_ragged(items.len())
-        | is_ragged(colours.len())
-        | is_ragged(ends.len())
-        | is_ragged(kept.len())
-        | is_ragged(out_ends.len())
-        | is_ragged(numbers.len())
-        | is_ragged(out_items.len())
-        | is_ragged(out_colours.len())
+    words::any_ragged(&[
+        given.items.len(),
+        given.colours.len(),
+        given.ends.len(),
+        results.kept.len(),
+        results.ends.len(),
+        results.numbers.len(),
+        results.items.len(),
+        results.colours.len(),
+    ])
 }
 
 // Reads the three lists of the problem, whose counts are within the figures.
-pub fn read(
-    np: u32,
-    ns: u32,
-    cap: u32,
-    items: &[u8],
-    colours: &[u8],
-    ends: &[u8],
-    kept: &mut [u8],
-    out_ends: &mut [u8],
-    numbers: &mut [u8],
-    out_items: &mut [u8],
-    out_colours: &mut [u8],
-) -> Answer
-    requires { (length (numbers_of items.now) ≤ 1024) × (length (numbers_of colours.now) ≤ 1024) × (length (numbers_of ends.now) ≤ 256) }
-    ensures { serving (paper result) (result_lists kept.new out_ends.new numbers.new out_items.new out_colours.new)
-        ≡ served false (handed_bytes np ns cap items.now colours.now ends.now (result_lists kept.old out_ends.old numbers.old out_items.old out_colours.old))
-        (result_lists kept.old out_ends.old numbers.old out_items.old out_colours.old) }
+pub fn read(given: &Given<u8>, results: &mut Results<u8>) -> Answer
+    requires { (length (numbers_of given.now.items.now) ≤ 1024) × (length (numbers_of given.now.colours.now) ≤ 1024) × (length (numbers_of given.now.ends.now) ≤ 256) }
+    ensures lists { SameResults results.old results.new }
+    ensures served { serving (paper result) (results_in results.new)
+        ≡ served false (handed_bytes given.now.np given.now.ns given.now.cap given.now.items.now given.now.colours.now given.now.ends.now (results_in results.old))
+        (results_in results.old) }
 {
-    let mut item_words = [0u32; 1024];
-    let mut colour_words = [0u32; 1024];
-    let mut end_words = [0u32; 256];
-    read_words(items, &mut item_words);
-    read_words(colours, &mut colour_words);
-    read_words(ends, &mut end_words);
-    let e = count(items);
-    let c = count(colours);
-    let m = count(ends);
-    thin(
-        np,
-        ns,
-        cap,
-        &item_words[..e],
-        &colour_words[..c],
-        &end_words[..m],
-        &mut *kept,
-        &mut *out_ends,
-        &mut *numbers,
-        &mut *out_items,
-        &mut *out_colours,
-    )
+    // fixed memory: lists as long as the figures allow, read as far as they are filled
+    let mut items = [0u32; 1024];
+    let mut colours = [0u32; 1024];
+    let mut ends = [0u32; 256];
+    read_words(given.items, &mut items);
+    read_words(given.colours, &mut colours);
+    read_words(given.ends, &mut ends);
+    let numbers = Given {
+        np: given.np,
+        ns: given.ns,
+        cap: given.cap,
+        items: &items[..count(given.items)],
+        colours: &colours[..count(given.colours)],
+        ends: &ends[..count(given.ends)],
+    };
+    thin(&numbers, results)
 }
 
 // Thins out a problem handed in as bytes. Counts are checked before anything is read: checks 10 to 15, with 14 for a ragged list in its turn.
-pub fn reduce(
-    np: u32,
-    ns: u32,
-    cap: u32,
-    items: &[u8],
-    colours: &[u8],
-    ends: &[u8],
-    kept: &mut [u8],
-    out_ends: &mut [u8],
-    numbers: &mut [u8],
-    out_items: &mut [u8],
-    out_colours: &mut [u8],
-) -> Answer
-    ensures { serving (paper result) (result_lists kept.new out_ends.new numbers.new out_items.new out_colours.new)
-        ≡ desk_outcome np ns cap items.now colours.now ends.now (result_lists kept.old out_ends.old numbers.old out_items.old out_colours.old) }
+pub fn reduce(given: &Given<u8>, results: &mut Results<u8>) -> Answer
+    ensures lists { SameResults results.old results.new }
+    ensures served { serving (paper result) (results_in results.new)
+        ≡ desk_outcome given.now.np given.now.ns given.now.cap given.now.items.now given.now.colours.now given.now.ends.now (results_in results.old) }
 {
-    let ragged = any_ragged(
-        items,
-        colours,
-        ends,
-        &*kept,
-        &*out_ends,
-        &*numbers,
-        &*out_items,
-        &*out_colours,
+    let ragged = any_ragged(given, results);
+    let entries = count(given.items);
+    let differ = ragged | (entries != count(given.colours));
+    let counts = Problem::within(
+        desk_figures(),
+        given.np,
+        given.ns,
+        count(given.ends),
+        entries,
+        differ,
     );
-    let e = count(items);
-    let differ = ragged | (e != count(colours));
-    let sized = Problem::within(desk_figures(), np, ns, count(ends), e, differ);
-    if let Sized::Refused(number) = sized {
-        return Answer::Refused {
-            number: number,
-            place: 0,
-        };
+    if let Err(refused) = counts {
+        return Answer::Refused(refused);
     }
-    read(
-        np,
-        ns,
-        cap,
-        items,
-        colours,
-        ends,
-        &mut *kept,
-        &mut *out_ends,
-        &mut *numbers,
-        &mut *out_items,
-        &mut *out_colours,
-    )
+    read(given, results)
 }

@@ -7,7 +7,6 @@ use mathlib.Core.List.{List}
 use mathlib.Core.Option.{none}
 use lib.Dec.{T, ltb, nltb→le}
 use lib.ListN.{length}
-use lib.IntN.{ℤ}
 use Rattle.rules.specs.Problem.{Problem, figures, problem_of}
 use Rattle.rules.specs.Checks.{Room, Results, Handed, refusal_of, short_results}
 use Rattle.rules.specs.State.{State}
@@ -17,15 +16,17 @@ use Rattle.rules.specs.Outcome.{cleared, fronts, said_of, concluded}
 use Rattle.rules.specs.Paper.{Said, said_infeasible}
 use Rattle.theorems.proofs.Words.Tests.{T-nor}
 use Rattle.theorems.proofs.Checks.Accept.{Passed, passed}
+use Rattle.theorems.proofs.Answers.Causes.{cause-range}
 use Rattle.theorems.proofs.Answers.Bounds.{ReducedWithin, InfeasibleWithin, Within, bounds}
 use Rattle.building.specs.Layout.{plan_for, plan_of}
 use Rattle.building.specs.Build.{Buildable}
 use Rattle.building.proofs.Premises.{buildable}
+use Rattle.links.specs.declared.nodes.Nodes.{Nodes}
 use Rattle.links.specs.Plan.{Plan}
 use Rattle.showing.specs.Showing.{state_of}
 use Rattle.preproc.specs.Standing.{Holding}
 use Rattle.result.specs.Writing.{out}
-use Rattle.result.specs.Reading.{Nodes}
+use Rattle.result.specs.Reading.{Laid}
 use Rattle.result.proofs.Enough.{enough}
 use Rattle.engine.specs.Call.{outcome}
 use Rattle.engine.specs.Report.{Reported}
@@ -97,25 +98,32 @@ module _ {h : Handed} (t : Taken h) where
       let w : InfeasibleWithin h item cause round = subst (Within h) q (bounds figures false h e) in
       omega (arith, w.primary, P.items)
 
+  -- for one of the three causes
+  pub stop-why : {item cause round : ℕ} → reduce a h.cap ≡ infeasible item cause round → (1 ≤ cause) × (cause ≤ 3)
+  stop-why {item} {cause} {round} q =
+      let w : InfeasibleWithin h item cause round = subst (Within h) q (bounds figures false h e) in
+      cause-range w.why
+
   -- the rounds stop at an item: no result is written
-  pub call-infeasible : {item cause round : ℕ} {room : Room} → reduce a h.cap ≡ infeasible item cause round → room ≡ cleared h.room
-      → outcome (said_infeasible item cause round) room h.results ≡ concluded h (reduce a h.cap)
-  call-infeasible = concludes-infeasible h
+  pub call-infeasible : {item cause round number : ℕ} {room : Room} → reduce a h.cap ≡ infeasible item cause round → number ≡ cause → room ≡ cleared h.room
+      → outcome (said_infeasible item number round) room h.results ≡ concluded h (reduce a h.cap)
+  call-infeasible q k = rw k (concludes-infeasible h q)
 
-  module _ {s : State} {rounds : ℕ} {settled : Bool} {heads : List ℤ} {up down tints marks : List ℕ}
-      (q : reduce a h.cap ≡ reduced s rounds settled) (H : Holding (plan_of a) s heads up down tints marks) where
-    abbrev n : ℕ
-    n = h.np + h.ns
+  abbrev n : ℕ
+  n = h.np + h.ns
 
-    plan-items : (plan_of a).n ≡ n
-    unfolding plan_for problem_of
-    plan-items = refl
+  plan-items : (plan_of a).n ≡ n
+  unfolding plan_for problem_of
+  plan-items = refl
 
-    nodes : Nodes H.ground n heads down tints
-    nodes = record {
+  -- the nodes are as the rounds left them
+  module _ (nodes : Nodes) (np-is : nodes.np ≡ h.np) (n-is : nodes.n ≡ h.np + h.ns) {s : State} {rounds : ℕ} {settled : Bool} {tints marks : List ℕ}
+      (q : reduce a h.cap ≡ reduced s rounds settled) (H : Holding (plan_of a) s nodes.heads.now nodes.up.now nodes.down.now tints marks) where
+    laid : Laid H.ground nodes tints
+    laid = record {
       standing = record {
         ready = H.standing.ready;
-        items-are = sym (ap (λ (X : Plan). X.n) H.plan ∙ plan-items);
+        items-are = n-is ∙ sym (ap (λ (X : Plan). X.n) H.plan ∙ plan-items);
         heads-are = H.standing.holds.heads-are;
       };
       down-are = H.standing.holds.down-are;
@@ -126,22 +134,22 @@ module _ {h : Handed} (t : Taken h) where
     shown-is = q ∙ ap (λ (x : State). reduced x rounds settled) (sym H.shows)
 
     -- what the rounds end with can be written
-    pub call-reported : Reported H.ground h.np n heads down tints h.results
+    pub call-reported : Reported H.ground nodes tints h.results
     call-reported =
         let w : ReducedWithin h (state_of H.ground) rounds = subst (Within h) shown-is (bounds figures false h e) in
         let r = spacious n (length h.items) (length h.ends) h.results P.results in
         record {
-          nodes = nodes;
-          few = omega arith;
-          kept-room = r.kept;
-          holding = enough n (state_of H.ground) (out h.results.ends h.results.numbers h.results.items h.results.colours)
-              (omega (arith, w.options, r.ends)) (omega (arith, w.options, r.numbers)) (omega (arith, w.entries, r.items)) (omega (arith, w.entries, r.colours));
-          options-small = omega (arith, w.options, P.options);
-          entries-small = omega (arith, w.entries, P.entries);
+          laid = laid;
+          few = omega (arith, np-is, n-is);
+          kept-room = omega (arith, n-is, r.kept);
+          holding = rw n-is (enough n (state_of H.ground) (out h.results.ends h.results.numbers h.results.items h.results.colours)
+              (omega (arith, w.options, r.ends)) (omega (arith, w.options, r.numbers)) (omega (arith, w.entries, r.items)) (omega (arith, w.entries, r.colours)));
+          options-small = rw n-is (omega (arith, w.options, P.options));
+          entries-small = rw n-is (omega (arith, w.entries, P.entries));
         }
 
     -- and is the outcome
     pub call-reduced : {said : Said} {room : Room} {results : Results}
-        → (said ≡ said_of h.np n (state_of H.ground) rounds settled) × (results ≡ fronts (results_of n (state_of H.ground)) h.results) → room ≡ cleared h.room
+        → (said ≡ said_of nodes.np nodes.n (state_of H.ground) rounds settled) × (results ≡ fronts (results_of nodes.n (state_of H.ground)) h.results) → room ≡ cleared h.room
         → outcome said room results ≡ concluded h (reduce a h.cap)
-    call-reduced o c = concludes-reduced h shown-is o.0 c o.1
+    call-reduced o c = concludes-reduced h shown-is (o.0 ∙ rw (np-is, n-is) refl) c (o.1 ∙ rw n-is refl)

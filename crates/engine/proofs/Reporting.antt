@@ -5,7 +5,6 @@ use mathlib.Core.Path.{◌≡◌, refl}
 use mathlib.Core.Bool.{Bool}
 use mathlib.Core.List.{List}
 use lib.ListN.{length}
-use lib.IntN.{ℤ}
 use Rattle.rules.specs.Lists.{written}
 use Rattle.rules.specs.Checks.{Results}
 use Rattle.rules.specs.State.{State}
@@ -13,6 +12,7 @@ use Rattle.rules.specs.Result.{kept_items, kept_options, primaries_of, secondari
 use Rattle.rules.specs.Outcome.{fronts, said_of}
 use Rattle.rules.specs.Paper.{said_reduced}
 use Rattle.links.specs.Ground.{Ground}
+use Rattle.links.specs.declared.nodes.Nodes.{Nodes}
 use Rattle.result.specs.Writing.{Out}
 use Rattle.result.specs.Reading.{Returned}
 use Rattle.engine.specs.Call.{result_lists}
@@ -35,13 +35,13 @@ pub results-fronts : (n : ℕ) (s : State) (old : Results) {lists : Out} {kept :
 unfolding fronts
 results-fronts n s old e r = rw e (rw r.ends (rw r.numbers (rw r.items (rw r.colours (rw (kept_of n s) refl)))))
 
-module _ {g : Ground} {np n : ℕ} {heads : List ℤ} {down tints : List ℕ} {lists : Results} (o : Reported g np n heads down tints lists) where
+module _ {g : Ground} {nodes : Nodes} {tints : List ℕ} {lists : Results} (o : Reported g nodes tints lists) where
   -- what the writing of the kept items asks
-  pub report-items : (np ≤ n) × (n < 1048576) × (n < length heads) × (n ≤ length lists.kept)
+  pub report-items : (nodes.np ≤ nodes.n) × (nodes.n < 1048576) × (nodes.n < length nodes.heads.now) × (nodes.n ≤ length lists.kept)
   report-items =
-      let t = o.nodes.standing.ready.tidy in
-      let e = o.nodes.standing.items-are in
-      let h = o.nodes.standing.heads-are in (
+      let t = o.laid.standing.ready.tidy in
+      let e = o.laid.standing.items-are in
+      let h = o.laid.standing.heads-are in (
         o.few,
         omega (arith, e, t.planned.room, t.planned.small),
         rw h (omega (arith, e, t.planned.room, t.heads-in)),

@@ -1,13 +1,14 @@
 -- From the nodes as they are built to what the rounds find, in the words of the rules. Assumes nothing.
-use Prim.Native.Nat.{ℕ, ◌+◌, ◌-◌, ◌≤◌}
+use Prim.Native.Nat.{ℕ, ◌+◌, ◌-◌, ◌<◌, ◌≤◌}
 use native.Mathlib.Omega.{arith}
 use mathlib.Core.Path.{◌≡◌, refl, ◌∙◌, ap, sym, subst}
 use mathlib.Core.Logic.{◌≢◌}
-use mathlib.Core.Bool.{Bool, false}
 use mathlib.Core.List.{List}
 use mathlib.Core.Option.{Option, none, some}
 use lib.ListN.{length}
 use lib.IntN.{ℤ}
+use Rattle.std.specs.Prelude.{Result, Err}
+use Rattle.rules.specs.declared.answer.Cause.TheVariants.{Start}
 use Rattle.rules.specs.Problem.{Problem, Figures, problem_of}
 use Rattle.rules.specs.Rounds.{Finding, infeasible, uncovered, unless_uncovered, rounds, reduce}
 use Rattle.rules.specs.Rounds.{start as starting}
@@ -17,6 +18,8 @@ use Rattle.showing.specs.Showing.{state_of, column_or}
 use Rattle.building.specs.Layout.{plan_of}
 use Rattle.building.specs.Laid.{every}
 use Rattle.building.specs.Build.{Buildable, Built, built}
+use Rattle.preproc.specs.declared.rounds.Done.{Done}
+use Rattle.preproc.specs.declared.rounds.Infeasible.{Infeasible}
 use Rattle.preproc.specs.Standing.{Standing, Figured, Looking, Ended}
 
 -- the answer as the rules put it together
@@ -67,14 +70,15 @@ module _ {f : Figures} {np ns n : ℕ} {items colours ends : List ℕ} {heads₀
       holds = record { heads-are = refl; up-are = refl; down-are = refl };
     }
 
-    pub built-figured : Figured (plan_of a) (n + 2) np
-    built-figured = record { begins = omega (arith, w.items); few = few }
+    -- what is asked where the nodes carry the figures
+    pub built-figured : {first m : ℕ} → first ≡ n + 2 → m ≡ np → Figured (plan_of a) first m
+    built-figured b e = record { begins = omega (arith, w.items, b); few = omega (arith, few, e) }
 
-    pub built-items : n ≡ (plan_of a).n
-    built-items = sym w.items
+    pub built-items : {k : ℕ} → k ≡ n → k ≡ (plan_of a).n
+    built-items e = e ∙ sym w.items
 
-    pub built-looking : Looking ground np heads
-    built-looking = record { ready = w.ready; few = few; heads-are = refl }
+    pub built-looking : {m : ℕ} → m ≡ np → Looking ground m heads
+    built-looking e = record { ready = w.ready; few = omega (arith, few, e); heads-are = refl }
 
     module _ (cap : ℕ) where
       -- with the state that the nodes show
@@ -85,14 +89,20 @@ module _ {f : Figures} {np ns n : ℕ} {items colours ends : List ℕ} {heads₀
           ∙ ap (λ (k : ℕ). unless_uncovered (uncovered np (starting a)) (rounds np k cap 0 (starting a))) n-is
           ∙ ap (λ s. unless_uncovered (uncovered np s) (rounds np n cap 0 s)) (sym w.shows)
 
-      module _ {z : ℕ} (e : z ≡ column_or 0 (uncovered np (state_of ground))) {heads' : List ℤ} {up' down' tints' marks' : List ℕ} where
-        pub search-uncovered : z ≢ 0 → Ended (plan_of a) (reduce a cap) z 1 0 false heads' up' down' tints' marks'
-        search-uncovered q = record {
-          stops = λ r. finds ∙ found_some (uncovered np (state_of ground)) _ z e q;
-          goes = λ r. absurd (q r);
+      module _ {m : ℕ} (me : m ≡ np) {heads' : List ℤ} {up' down' tints' marks' : List ℕ} where
+        pub search-uncovered : {z : ℕ} → z ≡ column_or 0 (uncovered m (state_of ground)) → 0 < z
+            → Ended (plan_of a) (reduce a cap) (Err (record { column = z; cause = Start; round = 0 })) heads' up' down' tints' marks'
+        search-uncovered {z} e q = record {
+          stops = (q, finds ∙ found_some (uncovered np (state_of ground)) _ z (e ∙ ap (λ (k : ℕ). column_or 0 (uncovered k (state_of ground))) me) (omega (arith, q)));
+          goes = tt;
         }
 
-        pub search-rounds : {item cause ran : ℕ} {settled : Bool} → z ≡ 0 → Ended (plan_of a) (rounds np n cap 0 (state_of ground)) item cause ran settled heads' up' down' tints' marks'
-            → Ended (plan_of a) (reduce a cap) item cause ran settled heads' up' down' tints' marks'
-        search-rounds {item} {cause} {ran} {settled} q o =
-            subst (λ (X : Finding). Ended (plan_of a) X item cause ran settled heads' up' down' tints' marks') (sym (finds ∙ found_none (uncovered np (state_of ground)) _ z e q)) o
+        pub search-rounds : {k : ℕ} {found : Result Done Infeasible} → column_or 0 (uncovered m (state_of ground)) ≡ 0 → k ≡ n
+            → Ended (plan_of a) (rounds m k cap 0 (state_of ground)) found heads' up' down' tints' marks' → Ended (plan_of a) (reduce a cap) found heads' up' down' tints' marks'
+        search-rounds {k} {found} q ke o = subst (λ (X : Finding). Ended (plan_of a) X found heads' up' down' tints' marks') (sym same) o
+          where
+            same : reduce a cap ≡ rounds m k cap 0 (state_of ground)
+            same =
+                finds
+                ∙ found_none (uncovered np (state_of ground)) _ _ (ap (λ (j : ℕ). column_or 0 (uncovered j (state_of ground))) me) q
+                ∙ sym (ap (λ (j : ℕ). rounds j k cap 0 (state_of ground)) me ∙ ap (λ (j : ℕ). rounds np j cap 0 (state_of ground)) ke)

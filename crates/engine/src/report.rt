@@ -1,55 +1,36 @@
 // The result, from the nodes that the rounds left to the five result lists.
 ghost use Rattle.std.specs.Prelude.{◌≡◌, ℕ};
+ghost use Rattle.rules.specs.Lent.{SameResults, results_in};
 ghost use Rattle.rules.specs.Outcome.{fronts, said_of};
 ghost use Rattle.rules.specs.Paper.{paper};
 ghost use Rattle.rules.specs.Result.{results_of};
 ghost use Rattle.links.specs.Ground.{Ground};
 ghost use Rattle.showing.specs.Showing.{state_of};
-ghost use Rattle.engine.specs.Call.{result_lists};
 ghost use Rattle.engine.specs.Report.{Reported};
 
+use links::nodes::Nodes;
+use preproc::rounds::Done;
 use result::items::get_items;
 use result::options::get_options;
 use rules::answer::Answer;
+use rules::lent::Results;
 
 // Writes the kept items and the options that are left, and counts them.
-pub fn report(
-    heads: &[i32],
-    down: &[u32],
-    tints: &[u32],
-    np: usize,
-    n: usize,
-    rounds: u32,
-    settled: bool,
-    kept: &mut [u32],
-    ends: &mut [u32],
-    numbers: &mut [u32],
-    items: &mut [u32],
-    colours: &mut [u32],
-) -> Answer
-    requires { (g : Ground) × Reported g np n heads.now down.now tints.now (result_lists kept.old ends.old numbers.old items.old colours.old) }
-    ensures { (g : Ground) → Reported g np n heads.now down.now tints.now (result_lists kept.old ends.old numbers.old items.old colours.old)
-        → (paper result ≡ said_of np n (state_of g) rounds settled)
-        × (result_lists kept.new ends.new numbers.new items.new colours.new
-        ≡ fronts (results_of n (state_of g)) (result_lists kept.old ends.old numbers.old items.old colours.old)) }
+pub fn report(nodes: &Nodes, tints: &[u32], done: Done, results: &mut Results<u32>) -> Answer
+    requires { (g : Ground) × Reported g nodes.now tints.now (results_in results.old) }
+    ensures lists { SameResults results.old results.new }
+    ensures reported { (g : Ground) → Reported g nodes.now tints.now (results_in results.old)
+        → (paper result ≡ said_of nodes.now.np nodes.now.n (state_of g) done.rounds done.settled)
+        × (results_in results.new ≡ fronts (results_of nodes.now.n (state_of g)) (results_in results.old)) }
 {
-    let counts = get_items(heads, n, np, &mut *kept);
-    let at = get_options(
-        heads,
-        down,
-        tints,
-        n,
-        &mut *ends,
-        &mut *numbers,
-        &mut *items,
-        &mut *colours,
-    );
+    let counts = get_items(nodes, results.kept);
+    let at = get_options(nodes, tints, results);
     Answer::Reduced {
         primaries: counts.primaries,
         secondaries: counts.secondaries,
         options: at.option as u32,
         entries: at.entry as u32,
-        rounds: rounds,
-        settled: settled,
+        rounds: done.rounds,
+        settled: done.settled,
     }
 }

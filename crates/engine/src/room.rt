@@ -1,24 +1,19 @@
 // The working lists at the end of a call.
 ghost use Rattle.std.specs.Prelude.{◌≡◌};
+ghost use Rattle.rules.specs.Lent.{SameRoom, room_in};
 ghost use Rattle.rules.specs.Outcome.{cleared};
-ghost use Rattle.engine.specs.Call.{room_lists};
 
-use result::clear::{clear, clear_heads};
+use result::clear::clear;
+use rules::lent::Room;
 
 // Every number of the five lists is zero, to their ends.
-pub fn clear_room(
-    heads: &mut [i32],
-    up: &mut [u32],
-    down: &mut [u32],
-    tints: &mut [u32],
-    marks: &mut [u32],
-)
-    ensures { room_lists heads.new up.new down.new tints.new marks.new
-        ≡ cleared (room_lists heads.old up.old down.old tints.old marks.old) }
+pub fn clear_room(room: &mut Room)
+    ensures lists { SameRoom room.old room.new }
+    ensures cleared { room_in room.new ≡ cleared (room_in room.old) }
 {
-    clear_heads(&mut *heads);
-    clear(&mut *up);
-    clear(&mut *down);
-    clear(&mut *tints);
-    clear(&mut *marks);
+    clear(room.heads, 0);
+    clear(room.up, 0);
+    clear(room.down, 0);
+    clear(room.tints, 0);
+    clear(room.marks, 0);
 }

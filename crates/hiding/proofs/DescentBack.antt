@@ -56,8 +56,9 @@ module _ {g : Ground} {tints : List ℕ} {c from : ℕ} (w : Column g tints c fr
     pub room : g.plan.N ≤ length heads
     room = away-room g t all-away
 
-    pub begin-in : c < length down
-    begin-in = omega (arith, all-away.downs, stand-inside w (head-stand w), t.ring.downs)
+    -- the place is within the lists
+    pub within : {rr : ℕ} → Stand g c rr → (rr < length up) × (rr < length down)
+    within s = (omega (arith, all-away.ups, stand-inside w s, t.ring.ups), omega (arith, all-away.downs, stand-inside w s, t.ring.downs))
 
     pub begin : DescentBack g c heads up down (at down c)
     begin =
@@ -78,19 +79,18 @@ module _ {g : Ground} {tints : List ℕ} {c from : ℕ} (w : Column g tints c fr
       same-down : at down rr ≡ at g.down rr
       same-down = column-down (rr + 1) (further w s) k s
 
-      pub next-in : rr < length down
-      next-in = omega (arith, k.downs, stand-inside w s, t.ring.downs)
+      -- q is what the code reads there
+      module _ {q : ℕ} (e : q ≡ at down rr) where
+        pub next : DescentBack g c heads up down q
+        next =
+            rw (e, same-down)
+            (record {
+              stand = stand-next g t c w.header rr s;
+              away = renamed (later_same (hidden g c) g (rr + 1) (reach g.plan (at g.down rr)) (further w s) (step-far g t c w.header rr s).1 (sym (step-gathers w s))) k;
+            })
 
-      pub next : DescentBack g c heads up down (at down rr)
-      next =
-          rw same-down
-          (record {
-            stand = stand-next g t c w.header rr s;
-            away = renamed (later_same (hidden g c) g (rr + 1) (reach g.plan (at g.down rr)) (further w s) (step-far g t c w.header rr s).1 (sym (step-gathers w s))) k;
-          })
-
-      pub next-less : (n : ℕ) → g.plan.N ≤ n → left n from (at down rr) < left n from rr
-      next-less n h = rw (same-down, w.begins) (step_less g t c w.header rr s n h (behind-headers w s l))
+        pub next-less : (n : ℕ) → g.plan.N ≤ n → left n from q < left n from rr
+        next-less n h = rw (e, same-down, w.begins) (step_less g t c w.header rr s n h (behind-headers w s l))
 
     module _ (m : DescentBack g c heads up down rr) where
       here : Away g (out rr) heads up down

@@ -1,5 +1,5 @@
--- A place of a walk round an option: behind the headers, in no column where it has no item, and small. Assumes nothing.
-use Prim.Native.Nat.{ℕ, ◌+◌, ◌<◌}
+-- A place of a walk round an option: behind the headers, and in no column where it has no item. Assumes nothing.
+use Prim.Native.Nat.{ℕ}
 use native.Mathlib.Omega.{arith}
 use mathlib.Core.Path.{◌≡◌, ◌∙◌, ap, sym}
 use mathlib.Core.Logic.{⊎_elim}
@@ -9,7 +9,7 @@ use Rattle.links.specs.Plan.{EntryOf, Header}
 use Rattle.links.specs.Ground.{Ground, Tidy}
 use Rattle.links.proofs.Stores.{not_so}
 use Rattle.links.proofs.Plans.{header-before}
-use Rattle.links.proofs.Rows.{At, place_in, walk_begins}
+use Rattle.links.proofs.Rows.{At}
 
 module _ {g : Ground} (t : Tidy g) {p : ℕ} (e : EntryOf g.plan p) where
   module _ {nn : ℕ} (a : At g p nn) where
@@ -18,10 +18,3 @@ module _ {g : Ground} (t : Tidy g) {p : ℕ} (e : EntryOf g.plan p) where
 
     pub empty-off : item_of (head g.heads nn) ≡ 0 → g.on nn ≡ false
     empty-off z = not_so (g.on nn) (λ o. ⊎_elim place-no-header (λ m. omega (arith, (t.planned.entry nn m).above, sym z ∙ ap item_of (t.full nn m o))) (t.masked nn o))
-
-    pub place-small : nn + 1 < 1048576
-    place-small = omega (arith, place_in g t p e nn a, t.planned.small)
-
-  -- also of the node after p
-  pub after_small : p + 1 < 1048576
-  after_small = omega (arith, place-small (walk_begins g t p e))

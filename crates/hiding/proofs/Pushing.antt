@@ -2,10 +2,8 @@
 use Prim.Native.Nat.{ℕ, ◌-◌, ◌<◌}
 use native.Mathlib.Omega.{arith}
 use mathlib.Core.Path.{◌≡◌, refl, ◌∙◌, ap, sym, subst}
-use mathlib.Core.Logic.{◌≢◌}
-use mathlib.Core.Bool.{Bool, true, false, cond, ◌&&◌}
+use mathlib.Core.Bool.{cond, ◌&&◌}
 use mathlib.Core.List.{List, [], ◌∷◌, ◌++◌, Memᴰ as In}
-use borrow.Author.Tests.{eq-eqb, ne_eqb}
 use lib.Dec.{eqb, leb}
 use lib.ListN.{length, set}
 use lib.IntN.{ℤ, pos}
@@ -19,21 +17,6 @@ use Rattle.links.proofs.Grounds.{col-in, length_some, length-small, node_in, cut
 pub last_out-append : (g : Ground) (np : ℕ) (xs ys : List ℕ) (z : ℕ) → last_out g np (xs ++ ys) z ≡ last_out (taken g xs) np ys (last_out g np xs z)
 last_out-append g np [] ys z = refl
 last_out-append g np (x ∷ xs) ys z = last_out-append (cut_one g x) np xs ys (cond (empties_at g np x) (g.plan.col x) z)
-
--- the code's choice of the answer, by the column's new length t
-module _ (t cc np z s : ℕ) where
-  pub primary-emptied : t ≡ 0 → leb cc np ≡ true → s ≡ cc → s ≡ cond (eqb t 0 && leb cc np) cc z
-  primary-emptied e l q = rw (eq-eqb t 0 e, l) q
-
-  pub other-emptied : leb cc np ≡ false → s ≡ z → s ≡ cond (eqb t 0 && leb cc np) cc z
-  other-emptied l q = go (eqb t 0)
-    where
-      go : (b : Bool) → s ≡ cond (b && leb cc np) cc z
-      go true = rw l q
-      go false = q
-
-  pub none-emptied : t ≢ 0 → s ≡ z → s ≡ cond (eqb t 0 && leb cc np) cc z
-  none-emptied n q = rw (ne_eqb t 0 n) q
 
 module _ (g : Ground) (t : Tidy g) (xs : List ℕ) (f : Fresh g xs) {x : ℕ} (w : Within g x) (n : In x xs → ⊥) where
   h-tidy : Tidy (taken g xs)

@@ -6,15 +6,18 @@ use mathlib.Core.Logic.{◌≢◌}
 use mathlib.Core.List.{List, ◌∷◌, ◌++◌}
 use lib.ListN.{length, set}
 use lib.IntN.{ℤ, pos}
+use Rattle.std.proofs.Common.{Some, None}
 use Rattle.links.specs.Head.{item_of, head, Growing}
 use Rattle.links.specs.Column.{at, tie_up, tie_down}
 use Rattle.links.specs.Ground.{Ground}
 use Rattle.links.specs.Row.{others}
 use Rattle.links.specs.Way.{way}
+use Rattle.links.specs.Nodes.{item_in}
+use Rattle.links.proofs.Endings.{item_none, item_some}
 use Rattle.links.proofs.Grounds.{taken-head}
-use Rattle.links.proofs.Rows.{At, place_in, walk_begins, full-head, full_at, full-way, over-at, over-way}
+use Rattle.links.proofs.Rows.{At, place_in, walk_begins, full-head, full_at, over-at, over-way}
 use Rattle.hiding.specs.Away.{Rising, Away, Behind}
-use Rattle.hiding.proofs.Places.{place-no-header, empty-off, place-small}
+use Rattle.hiding.proofs.Places.{place-no-header, empty-off}
 use Rattle.hiding.proofs.Rises.{rising-fresh}
 use Rattle.hiding.proofs.Aways.{away-room, relink-asks, more-in, away-back}
 use Rattle.hiding.proofs.Ahead.{ahead, ahead-all, ahead_none, ahead-full, ahead-over}
@@ -44,9 +47,6 @@ module _ {g : Ground} {rr : ℕ} {rest : List ℕ} (a : Behind g rr rest) where
         let p = place_in g a.tidy rr a.entry nn m.place in
         (omega (arith, away-room g a.tidy m.away), omega (arith, m.away.ups, a.tidy.ring.ups))
 
-    pub small : nn + 1 < 1048576
-    small = place-small a.tidy a.entry m.place
-
     -- its head is that of the whole ground
     same_head : head heads nn ≡ head g.heads nn
     same_head =
@@ -55,9 +55,9 @@ module _ {g : Ground} {rr : ℕ} {rest : List ℕ} (a : Behind g rr rest) where
 
     module _ (d : nn ≢ rr) where
       -- At the boundary or a shortened entry: on by the link up.
-      module _ (z : item_of (head heads nn) ≡ 0) where
+      module _ (z : None ≡ item_in (head heads nn)) where
         z₀ : item_of (head g.heads nn) ≡ 0
-        z₀ = sym (ap item_of same_head) ∙ z
+        z₀ = sym (ap item_of same_head) ∙ item_none (head heads nn) z
 
         lead : at up nn ≡ at g.up nn
         lead = m.away.up-off nn (empty-off a.tidy a.entry m.place z₀)
@@ -68,16 +68,13 @@ module _ {g : Ground} {rr : ℕ} {rest : List ℕ} (a : Behind g rr rest) where
         pub over-less : (n : ℕ) → g.plan.N ≤ n → way n rr (at up nn) < way n rr nn
         over-less n l = rw lead (over-way g a.tidy rr a.entry nn m.place d z₀ n l)
 
-      pub full-less : (n : ℕ) → g.plan.N ≤ n → way n rr (nn + 1) < way n rr nn
-      full-less n l = full-way g a.tidy rr a.entry n nn l m.place d
-
       -- At an entry: it comes back.
-      module _ (n : item_of (head heads nn) ≢ 0) where
+      module _ {cc : ℕ} (e : Some cc ≡ item_in (head heads nn)) where
         n₀ : item_of (head g.heads nn) ≢ 0
-        n₀ e = n (ap item_of same_head ∙ e)
+        n₀ z = omega (arith, (item_some (head heads nn) cc e).1, ap item_of same_head, z)
 
-        column : item_of (head heads nn) ≡ g.plan.col nn
-        column = ap item_of (same_head ∙ full-head g a.tidy rr a.entry nn m.place n₀)
+        column : cc ≡ g.plan.col nn
+        column = sym (item_some (head heads nn) cc e).0 ∙ ap item_of (same_head ∙ full-head g a.tidy rr a.entry nn m.place n₀)
 
         abbrev left : List ℕ
         left = ahead g rr (nn + 1) ++ rest
@@ -94,10 +91,10 @@ module _ {g : Ground} {rr : ℕ} {rest : List ℕ} (a : Behind g rr rest) where
         pub relink-needs : (nn < 1048576) × (nn < length up) × (nn < length down) × (at up nn < length down) × (at down nn < length up)
         relink-needs = relink-asks g a.tidy nn left r k
 
-        pub more-needs : {cc : ℕ} → cc ≡ item_of (head heads nn) → Growing heads cc
-        more-needs e = rw (e ∙ column) (more-in g a.tidy nn left r k)
+        pub more-needs : Growing heads cc
+        more-needs = rw column (more-in g a.tidy nn left r k)
 
-        pub full : {cc : ℕ} → cc ≡ item_of (head heads nn) → RoundBack g rr rest (set heads cc (pos (item_of (head heads cc) + 1))) (tie_up up down nn) (tie_down up down nn) (nn + 1)
-        full e =
-            rw (e ∙ column)
+        pub full : RoundBack g rr rest (set heads cc (pos (item_of (head heads cc) + 1))) (tie_up up down nn) (tie_down up down nn) (nn + 1)
+        full =
+            rw column
             (record { place = full_at g a.tidy rr a.entry nn m.place n₀; rising = r.2; away = away-back g a.tidy nn left r k })

@@ -4,49 +4,46 @@ ghost use Rattle.std.specs.Prelude.{List, ◌++◌, ℕ};
 ghost use Rattle.links.specs.Ground.{Ground, taken, Holds};
 ghost use Rattle.links.specs.Row.{others};
 ghost use Rattle.links.specs.Taking.{hides};
+ghost use Rattle.links.specs.Nodes.{in_nodes, SameNodes};
 ghost use Rattle.hiding.specs.Hiding.{Column};
 ghost use Rattle.hiding.specs.Away.{Away, Behind};
 
-use links::column::{link, more, relink};
-use links::head::item_at;
+use links::nodes::Nodes;
 
 // Puts every entry of rr's option but rr itself back into its column, in the same order.
-pub fn unhide_option(heads: &mut [i32], up: &mut [u32], down: &mut [u32], rr: usize)
-    requires { (g : Ground) × (rest : List ℕ) × Behind g rr rest × Away g (others g rr ++ rest) heads.old up.old down.old }
-    ensures { (g : Ground) (rest : List ℕ) → Behind g rr rest → Away g (others g rr ++ rest) heads.old up.old down.old
-        → Away g rest heads.new up.new down.new }
+pub fn unhide_option(nodes: &mut Nodes, rr: usize)
+    requires { (g : Ground) × (rest : List ℕ) × Behind g rr rest × in_nodes (Away g (others g rr ++ rest)) nodes.old }
+    ensures nodes { SameNodes nodes.old nodes.new }
+    ensures back { (g : Ground) (rest : List ℕ) → Behind g rr rest → in_nodes (Away g (others g rr ++ rest)) nodes.old
+        → in_nodes (Away g rest) nodes.new }
 {
     let mut nn = rr + 1;
+    // a walk along links, as in `hide_option`
     while nn != rr {
-        let cc = item_at(&*heads, nn);
-        if cc == 0 {
-            nn = link(&*up, nn);
-        } else {
-            relink(&mut *up, &mut *down, nn);
-            more(&mut *heads, cc);
-            nn += 1;
+        match nodes.item(nn) {
+            None => nn = nodes.above(nn),
+            Some(cc) => {
+                nodes.relink(nn);
+                nodes.more(cc);
+                nn += 1;
+            }
         }
     }
 }
 
 // Undoes `hide`: all three lists are as they were before it.
-pub fn unhide(
-    heads: &mut [i32],
-    up: &mut [u32],
-    down: &mut [u32],
-    tints: &[u32],
-    c: usize,
-    start: usize,
-)
-    requires { (g : Ground) × Column g tints.now c start × Holds (taken g (hides g c)) heads.old up.old down.old }
-    ensures { (g : Ground) → Column g tints.now c start → Holds (taken g (hides g c)) heads.old up.old down.old
-        → Holds g heads.new up.new down.new }
+pub fn unhide(nodes: &mut Nodes, tints: &[u32], c: usize)
+    requires { (g : Ground) × Column g tints.now c nodes.old.start × in_nodes (Holds (taken g (hides g c))) nodes.old }
+    ensures nodes { SameNodes nodes.old nodes.new }
+    ensures back { (g : Ground) → Column g tints.now c nodes.old.start → in_nodes (Holds (taken g (hides g c))) nodes.old
+        → in_nodes (Holds g) nodes.new }
 {
-    let mut rr = link(&*down, c);
-    while rr >= start {
+    let mut rr = nodes.below(c);
+    // down the column's links
+    while rr >= nodes.start {
         if tints[rr] == 0 {
-            unhide_option(&mut *heads, &mut *up, &mut *down, rr);
+            unhide_option(nodes, rr);
         }
-        rr = link(&*down, rr);
+        rr = nodes.below(rr);
     }
 }

@@ -12,14 +12,14 @@ use Rattle.rules.specs.Result.{kept_items, kept_options, primaries_of, secondari
 use Rattle.rules.specs.Paper.{paper}
 use Rattle.rules.specs.Outcome.{Outcome, said_of, outcome_at}
 use Rattle.rules.specs.declared.answer.Answer.{Answer}
-use Rattle.rules.specs.declared.answer.Answer.TheVariants.{Reduced, Infeasible, Refused}
+use Rattle.rules.specs.declared.answer.Answer.TheVariants.{Reduced}
 use Rattle.theorems.proofs.Checks.Accept.{passed}
-use Rattle.theorems.proofs.Checks.Paper.{paper-one}
+use Rattle.theorems.proofs.Checks.Paper.{paper-one, infeasible-one, refused-one}
 use Rattle.theorems.proofs.Answers.Bounds.{Within, bounds, number-range, place-below}
 use Rattle.theorems.proofs.Answers.Causes.{cause-range}
 use Rattle.theorems.proofs.Answers.RefusalPlaces.{tabled}
 use Rattle.theorems.proofs.Answers.OneOutcome.{outcome-refused, outcome-found}
-use Rattle.kapkyrem.specs.Packed.{Fits}
+use Rattle.kapkyrem.specs.Packed.{RefusalFits, InfeasibleFits, Fits}
 
 -- figures whose counts fit the fields, and the rounds and places with them
 pub record FiguresFit (p s o : ℕ) (f : Figures) : Type 0 where
@@ -35,7 +35,7 @@ module _ {p s o : ℕ} {f : Figures} (small : FiguresFit p s o f) (ragged : Bool
   alike : (a b : Answer) → paper a ≡ paper b → Fits p s o b → Fits p s o a
   alike a b e fits = subst (Fits p s o) (sym (paper-one a b e)) fits
 
-  refused : (r : Refusal) → refusal_of f ragged h ≡ some r → Fits p s o (Refused r.number r.place)
+  refused : (r : Refusal) → refusal_of f ragged h ≡ some r → RefusalFits r.number r.place
   refused r e =
       let t = tabled f ragged h r e in
       let n = number-range t in
@@ -66,16 +66,19 @@ module _ {p s o : ℕ} {f : Figures} (small : FiguresFit p s o f) (ragged : Bool
   answered a e (infeasible item cause round) k q =
       let w = subst (Within h) k (bounds f ragged h e) in
       let P = passed f ragged h e in
-      alike a (Infeasible (record { 0 = item }) cause round) (q ∙ ap (λ (z : Outcome). z.said) (outcome-found f ragged h _ e k))
-      (record {
+      let o = infeasible-one a (q ∙ ap (λ (z : Outcome). z.said) (outcome-found f ragged h _ e k)) in
+      let fits : InfeasibleFits item cause round = record {
         item-fits = let v = w.primary in let i = P.items in let a = small.items in omega arith;
         cause-fits = let c = (cause-range w.why).1 in omega arith;
         round-fits = let v = w.in-time in let i = P.items in let m = P.options in let a = small.items in let c = small.options in omega arith;
-      })
+      } in
+      rw (o.2, o.3, o.4) fits
 
   pub answer-fits : (a : Answer) → paper a ≡ (outcome_at f ragged h).said → Fits p s o a
   answer-fits a q = go (refusal_of f ragged h) refl
     where
       go : (x : Option Refusal) → refusal_of f ragged h ≡ x → Fits p s o a
       go none e = answered a e (reduce (problem_of h.np h.ns h.items h.colours h.ends) h.cap) refl q
-      go (some r) e = alike a (Refused r.number r.place) (q ∙ ap (λ (z : Outcome). z.said) (outcome-refused f ragged h r e)) (refused r e)
+      go (some r) e =
+          let o = refused-one a (q ∙ ap (λ (z : Outcome). z.said) (outcome-refused f ragged h r e)) in
+          rw (o.1, o.2, o.3) (refused r e)

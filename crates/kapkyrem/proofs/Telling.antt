@@ -13,8 +13,7 @@ use Rattle.desk.specs.Desk.{desk_figures, Served, serving, served}
 use Rattle.kapkyrem.specs.Packed.{packed_desk, packed_lists, Fits}
 use mathlib.Core.List.{List}
 use Rattle.rules.specs.Renumber.{Renumbered}
-use Rattle.renumbering.specs.Outcome.{refusal, refusal_number, refusal_place, packed, outcome as renumbered}
-use Rattle.renumbering.specs.declared.answer.Renumbering.{Renumbering}
+use Rattle.renumbering.specs.Outcome.{Renumbering, refusal, refusal_number, refusal_place, packed, outcome as renumbered}
 use Rattle.kapkyrem.specs.Calls.{called, called_lists, called_desk, called_bytes, called_compact, called_renumbered}
 use Rattle.kapkyrem.proofs.Fitting.{FiguresFit, answer-fits}
 

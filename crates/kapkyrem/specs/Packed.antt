@@ -1,7 +1,8 @@
 -- The answer as one 64-bit number, of the desk's call and of the call over lists of numbers. Document 01, "What comes back", its last lines.
 -- Assumes nothing.
-use Rattle.std.specs.Prelude.{ℕ, ◌+◌, ◌-◌, ◌*◌, ◌^◌, ◌<◌, cond, eqb, get_or}
-use Rattle.rules.specs.Paper.{Said}
+use Rattle.std.specs.Prelude.{ℕ, ◌+◌, ◌-◌, ◌*◌, ◌^◌, ◌<◌, ◌≤◌, cond, eqb, get_or}
+use Rattle.rules.specs.Refusals.{number_of}
+use Rattle.rules.specs.Paper.{Said, cause_number}
 use Rattle.rules.specs.declared.answer.Answer.{Answer}
 use Rattle.rules.specs.declared.answer.Answer.TheVariants.{Reduced, Infeasible, Refused}
 
@@ -44,6 +45,10 @@ pub record InfeasibleFits (item cause round : ℕ) : Type 0 where
   pub cause-fits : cause < 2 ^ 8
   pub round-fits : round < 2 ^ 32
 
+-- the primaries, the secondaries and the options begin in this order, behind the rounds and the flag
+abbrev pub InOrder : ℕ → ℕ → ℕ → Type 0
+InOrder p s o = (25 ≤ p) × (p ≤ s) × (s ≤ o) × (o < 64)
+
 pub record ReducedFits (p s o primaries secondaries options rounds settled : ℕ) : Type 0 where
   pub rounds-fit : rounds < 2 ^ 16
   pub settled-fits : settled < 2
@@ -53,5 +58,5 @@ pub record ReducedFits (p s o primaries secondaries options rounds settled : ℕ
 
 abbrev pub Fits : ℕ → ℕ → ℕ → Answer → Type 0
 Fits p s o (Reduced primaries secondaries options entries rounds settled) = ReducedFits p s o primaries secondaries options rounds (cond settled 1 0)
-Fits p s o (Infeasible item cause round) = InfeasibleFits item.0 cause round
-Fits p s o (Refused number place) = RefusalFits number place
+Fits p s o (Infeasible item cause round) = InfeasibleFits item.0 (cause_number cause) round
+Fits p s o (Refused r) = RefusalFits (number_of r.check) r.place

@@ -6,6 +6,7 @@ ghost use Rattle.kapkyrem.specs.Calls.{called_desk, called_bytes};
 
 use crate::packed::pack_desk;
 use desk::reduce::reduce;
+use rules::lent::{Given, Results};
 
 // For C each list is a pointer and a count of bytes. include/kapkyrem.h describes every parameter.
 pub fn kapkyrem_reduce(
@@ -24,18 +25,20 @@ pub fn kapkyrem_reduce(
     ensures { called_desk result (result_lists kept.new out_ends.new numbers.new out_items.new out_colours.new)
         ≡ called_bytes (desk_outcome np ns cap items.now colours.now ends.now (result_lists kept.old out_ends.old numbers.old out_items.old out_colours.old)) }
 {
-    let answer = reduce(
+    let given = Given {
         np,
         ns,
         cap,
         items,
         colours,
         ends,
-        &mut *kept,
-        &mut *out_ends,
-        &mut *numbers,
-        &mut *out_items,
-        &mut *out_colours,
-    );
-    pack_desk(answer)
+    };
+    let mut results = Results {
+        kept,
+        ends: out_ends,
+        numbers,
+        items: out_items,
+        colours: out_colours,
+    };
+    pack_desk(reduce(&given, &mut results))
 }

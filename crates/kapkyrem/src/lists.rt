@@ -6,8 +6,10 @@ ghost use Rattle.kapkyrem.specs.Calls.{called, called_lists};
 
 use crate::packed::pack_lists;
 use calls::reduce;
+use rules::lent::{Given, Results, Room};
 
-// For C each list is a pointer and a count of numbers. include/kapkyrem.h describes every parameter.
+// For C each list is a pointer and a count of numbers. include/kapkyrem.h describes every parameter. (It is long since each of C's sixteen
+// parameters takes a line, here and in its struct.)
 pub fn kapkyrem_reduce_lists(
     np: u32,
     ns: u32,
@@ -29,23 +31,27 @@ pub fn kapkyrem_reduce_lists(
     ensures { called result (room_lists heads.new up.new down.new tints.new marks.new) (result_lists kept.new out_ends.new numbers.new out_items.new out_colours.new)
         ≡ called_lists (outcome_of (handed np ns cap items.now colours.now ends.now (room_lists heads.old up.old down.old tints.old marks.old) (result_lists kept.old out_ends.old numbers.old out_items.old out_colours.old))) }
 {
-    let answer = reduce(
+    let given = Given {
         np,
         ns,
         cap,
         items,
         colours,
         ends,
-        &mut *heads,
-        &mut *up,
-        &mut *down,
-        &mut *tints,
-        &mut *marks,
-        &mut *kept,
-        &mut *out_ends,
-        &mut *numbers,
-        &mut *out_items,
-        &mut *out_colours,
-    );
-    pack_lists(answer)
+    };
+    let mut room = Room {
+        heads,
+        up,
+        down,
+        tints,
+        marks,
+    };
+    let mut results = Results {
+        kept,
+        ends: out_ends,
+        numbers,
+        items: out_items,
+        colours: out_colours,
+    };
+    pack_lists(reduce(&given, &mut room, &mut results))
 }

@@ -1,25 +1,15 @@
 // The answer as one number, for C. What each field holds is in specs/Packed.antt.
 ghost use Rattle.std.specs.Prelude.{◌≡◌, cond};
 ghost use Rattle.rules.specs.Paper.{paper};
-ghost use Rattle.kapkyrem.specs.Packed.{packed_refusal, packed_infeasible, packed_reduced, packed_desk, packed_lists, InfeasibleFits, ReducedFits, Fits};
+ghost use Rattle.kapkyrem.specs.Packed.{packed_refusal, packed_infeasible, packed_reduced, packed_at, packed_desk, packed_lists, InOrder, InfeasibleFits, ReducedFits, Fits};
 
 use rules::answer::Answer;
 
-// 1 for true, as the field wants it.
-pub fn flag(b: bool) -> u64
-    ensures { result ≡ cond b 1 0 }
-{
-    if b {
-        return 1;
-    }
-    0
-}
-
-// A refusal: its number, and its place behind it.
+// A refusal: its number, and its place behind it. Here and below the kinds come as numbers, as C has them: an enum would take fewer.
 pub fn pack_refusal(number: u32, place: u32) -> u64
     ensures { result ≡ packed_refusal number place }
 {
-    number as u64 + 256 * place as u64
+    u64::from(number) + 256 * u64::from(place)
 }
 
 // Infeasible: the item, the cause and the round.
@@ -27,79 +17,62 @@ pub fn pack_infeasible(item: u32, cause: u32, round: u32) -> u64
     requires { InfeasibleFits item cause round }
     ensures { result ≡ packed_infeasible item cause round }
 {
-    1 + 256 * item as u64 + 16777216 * cause as u64 + 4294967296 * round as u64
+    1 + 256 * u64::from(item) + 16777216 * u64::from(cause) + 4294967296 * u64::from(round)
 }
 
-// Reduced, as the desk's call has it.
-pub fn desk_reduced(
+// Reduced, where the primaries begin at bit P, the secondaries at bit S and the options at bit O.
+pub fn pack_reduced<const P: u32, const S: u32, const O: u32>(
     primaries: u32,
     secondaries: u32,
     options: u32,
     rounds: u32,
-    settled: u64,
+    settled: bool,
 ) -> u64
-    requires { ReducedFits 32 40 48 primaries secondaries options rounds settled }
-    ensures { result ≡ packed_reduced 32 40 48 primaries secondaries options rounds settled }
+    requires order { InOrder P S O }
+    requires fits { ReducedFits P S O primaries secondaries options rounds (cond settled 1 0) }
+    ensures { result ≡ packed_reduced P S O primaries secondaries options rounds (cond settled 1 0) }
 {
-    256 * rounds as u64
-        + 16777216 * settled
-        + 4294967296 * primaries as u64
-        + 1099511627776 * secondaries as u64
-        + 281474976710656 * options as u64
+    256 * u64::from(rounds)
+        + 16777216 * u64::from(settled)
+        + (u64::from(primaries) << P)
+        + (u64::from(secondaries) << S)
+        + (u64::from(options) << O)
 }
 
-// Reduced, as the call over lists of numbers has it, whose counts are larger.
-pub fn lists_reduced(
-    primaries: u32,
-    secondaries: u32,
-    options: u32,
-    rounds: u32,
-    settled: u64,
-) -> u64
-    requires { ReducedFits 25 36 47 primaries secondaries options rounds settled }
-    ensures { result ≡ packed_reduced 25 36 47 primaries secondaries options rounds settled }
+// An answer, with a reduced problem's fields at these bits.
+pub fn pack<const P: u32, const S: u32, const O: u32>(answer: Answer) -> u64
+    requires order { InOrder P S O }
+    requires fits { Fits P S O answer }
+    ensures { result ≡ packed_at P S O (paper answer) }
 {
-    256 * rounds as u64
-        + 16777216 * settled
-        + 33554432 * primaries as u64
-        + 68719476736 * secondaries as u64
-        + 140737488355328 * options as u64
+    match answer {
+        Answer::Reduced {
+            primaries,
+            secondaries,
+            options,
+            rounds,
+            settled,
+            ..
+        } => pack_reduced::<P, S, O>(primaries, secondaries, options, rounds, settled),
+        Answer::Infeasible { item, cause, round } => {
+            pack_infeasible(item.0, cause.number(), round)
+        }
+        Answer::Refused(refusal) => pack_refusal(refusal.check.number(), refusal.place),
+    }
 }
 
 // The answer of the desk's call.
-pub fn pack_desk(a: Answer) -> u64
-    requires { Fits 32 40 48 a }
-    ensures { result ≡ packed_desk (paper a) }
+pub fn pack_desk(answer: Answer) -> u64
+    requires { Fits 32 40 48 answer }
+    ensures { result ≡ packed_desk (paper answer) }
 {
-    match a {
-        Answer::Reduced {
-            primaries,
-            secondaries,
-            options,
-            entries: _,
-            rounds,
-            settled,
-        } => desk_reduced(primaries, secondaries, options, rounds, flag(settled)),
-        Answer::Infeasible { item, cause, round } => pack_infeasible(item.0, cause, round),
-        Answer::Refused { number, place } => pack_refusal(number, place),
-    }
+    pack::<32, 40, 48>(answer)
 }
 
-// The answer of the call over lists of numbers.
-pub fn pack_lists(a: Answer) -> u64
-    requires { Fits 25 36 47 a }
-    ensures { result ≡ packed_lists (paper a) }
+// The answer of the call over lists of numbers, whose counts are larger.
+pub fn pack_lists(answer: Answer) -> u64
+    requires { Fits 25 36 47 answer }
+    ensures { result ≡ packed_lists (paper answer) }
 {
-    match a {
-        Answer::Reduced {
-            primaries,
-            secondaries,
-            options,
-            entries: _,
-            rounds,
-            settled,
-        } => lists_reduced(primaries, secondaries, options, rounds, flag(settled)),
-        Answer::Infeasible { item, cause, round } => pack_infeasible(item.0, cause, round),
-        Answer::Refused { number, place } => pack_refusal(number, place),
-    }
+    pack::<25, 36, 47>(answer)
 }

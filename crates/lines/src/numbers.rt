@@ -1,135 +1,100 @@
 // The numbers of a text: plain, `0 1 4 2`, or the options of a problem as document 01 writes them, `[0 1 4:1],[2]`, with a colour behind a colon.
-// The lists that are read into hold zeros first. What has no room there is left out.
-ghost use Rattle.std.specs.Prelude.{◌≡◌, length};
+// What has no room in the list that is read into is left out (no heap: into a list that is lent, and the count may be above its length).
+ghost use Rattle.std.specs.Prelude.{◌≡◌, ◌≤◌, ◌==◌, length, count_by};
 
-use crate::text::next;
+use crate::parts::front;
 
-// How far a text is read: the entries that are complete, whether the one in hand has a digit, and whether its colour is being read.
-#[derive(Clone, Copy)]
-pub struct Place {
-    pub entries: usize,
-    pub open: bool,
-    pub colour: bool,
-}
-
-// The value of a digit; 10 for any other byte.
-fn digit(b: u8) -> u8 {
-    if b < b'0' {
-        return 10;
-    }
-    if b'9' < b {
-        return 10;
-    }
-    b - b'0'
-}
-
-// The same, and 10 also where the byte isn't wanted.
-fn wanted(b: u8, is_wanted: bool) -> u8 {
-    if is_wanted { digit(b) } else { 10 }
-}
-
-// One more decimal digit at the end of a number, which stops at the highest.
-fn with_digit(n: u32, d: u8) -> u32 {
-    let m = (n as u64) * 10 + (d as u64);
-    if m < 4294967295 { m as u32 } else { 4294967295 }
-}
-
-// One more digit at the end of the number at place k.
-fn put_digit(l: &mut [u32], k: usize, d: u8) {
-    if 9 < d {
-        return;
-    }
-    if k < l.len() {
-        let n = l[k];
-        l[k] = with_digit(n, d);
+// The digit that a byte is.
+fn digit(b: u8) -> Option<u32> {
+    match b {
+        b'0'..=b'9' => Some(u32::from(b - b'0')),
+        _ => None,
     }
 }
 
-// The entries that are complete once a byte comes that belongs to none.
-fn complete(at: Place) -> usize {
-    if at.open {
-        next(at.entries)
-    } else {
-        at.entries
-    }
+// The number that the digits of a text write; it stops at the highest.
+fn number(t: &[u8]) -> u32 {
+    t.iter()
+        .filter_map(|b| digit(*b))
+        .fold(0u32, |n, d| n.saturating_mul(10).saturating_add(d))
 }
 
-// One byte further.
-fn step(at: Place, b: u8) -> Place {
-    if digit(b) < 10 {
-        return Place {
-            entries: at.entries,
-            open: true,
-            colour: at.colour,
-        };
-    }
-    if b == b':' {
-        return Place {
-            entries: at.entries,
-            open: at.open,
-            colour: true,
-        };
-    }
-    Place {
-        entries: complete(at),
-        open: false,
-        colour: false,
-    }
+// Whether a byte stands between entries.
+fn is_apart(b: &u8) -> bool {
+    !(b.is_ascii_digit() || *b == b':')
 }
 
-// Reads the plain numbers and the items of a text, or else the colours, 0 where there is none; says how many entries there are.
-pub fn entries(t: &[u8], colour: bool, l: &mut [u32]) -> usize
+// An entry is a run of digits and colons that has a digit.
+fn is_entry(run: &&[u8]) -> bool {
+    run.iter().any(u8::is_ascii_digit)
+}
+
+// How many entries a text has.
+pub fn count(t: &[u8]) -> usize {
+    t.split(is_apart).filter(is_entry).count()
+}
+
+// Reads the entries of a text, each by `value`, and says how many there are.
+fn read<F: Fn(&[u8]) -> u32>(t: &[u8], l: &mut [u32], value: F) -> usize
+    requires { F.IsAlwaysCallable value }
     ensures { length l.new ≡ length l.old }
 {
-    let mut at = Place {
-        entries: 0,
-        open: false,
-        colour: false,
-    };
-    let mut k = 0;
-    while k < t.len() {
-        let b = t[k];
-        put_digit(&mut *l, at.entries, wanted(b, at.colour == colour));
-        at = step(at, b);
-        k += 1;
+    let entries = t.split(is_apart).filter(is_entry);
+    for (place, entry) in l.iter_mut().zip(entries) {
+        *place = value(entry);
     }
-    complete(at)
+    count(t)
 }
 
-fn put(l: &mut [u32], k: usize, n: usize) {
-    if 4294967295 < n {
-        return;
-    }
-    if k < l.len() {
-        l[k] = n as u32;
-    }
+// Reads the plain numbers and the items of a text; says how many there are.
+pub fn entries(t: &[u8], l: &mut [u32]) -> usize
+    ensures { length l.new ≡ length l.old }
+{
+    read(t, l, |entry| {
+        number(entry.split(|b| *b == b':').next().unwrap_or(entry))
+    })
 }
 
-// The end of an option, where the byte is one; says how many ends there are.
-fn put_end(l: &mut [u32], m: usize, b: u8, end: usize) -> usize {
-    if b != b']' {
-        return m;
-    }
-    put(&mut *l, m, end);
-    next(m)
+// The same for the colours, 0 where there is none: the calls are lent it so, and what a text leaves out was read so from the first.
+pub fn colours(t: &[u8], l: &mut [u32]) -> usize
+    ensures { length l.new ≡ length l.old }
+{
+    read(t, l, |entry| {
+        number(entry.splitn(2, |b| *b == b':').nth(1).unwrap_or(&[]))
+    })
 }
 
-// Reads the ends of the options; says how many there are.
+// The same for the ends of the options: each is the count of the entries up to it, and there are as many as closing brackets stand there.
 pub fn ends(t: &[u8], l: &mut [u32]) -> usize
-    ensures { length l.new ≡ length l.old }
+    ensures room { length l.new ≡ length l.old }
+    ensures count { result ≡ count_by (λ b. b == 93) t.now }
 {
-    let mut at = Place {
-        entries: 0,
-        open: false,
-        colour: false,
-    };
-    let mut m = 0;
-    let mut k = 0;
-    while k < t.len() {
-        let b = t[k];
-        at = step(at, b);
-        m = put_end(&mut *l, m, b, at.entries);
-        k += 1;
+    let mut end: usize = 0;
+    let options = t
+        .split_inclusive(|b| *b == b']')
+        .filter(|option| option.ends_with(b"]"));
+    for (place, option) in l.iter_mut().zip(options) {
+        end = end.saturating_add(count(option));
+        if let Ok(n) = u32::try_from(end) {
+            *place = n;
+        }
     }
-    m
+    t.iter().filter(|b| **b == b']').count()
+}
+
+// The plain numbers of a text, as far as the list holds them.
+pub fn list<'a>(t: &[u8], l: &'a mut [u32]) -> &'a [u32]
+    ensures { length result.now ≤ length l.old }
+{
+    let n = entries(t, &mut *l);
+    front(l, n)
+}
+
+// The first plain numbers of a text, with zeros for those that aren't there: the programs read so what a line leaves out.
+pub fn row<const N: usize>(t: &[u8]) -> [u32; N]
+    ensures { N ≡ length result }
+{
+    let mut l = [0; N];
+    entries(t, &mut l);
+    l
 }

@@ -2,35 +2,23 @@
 ghost use Rattle.std.specs.Prelude.{◌≡◌, take, slice_index};
 
 // The front of a list.
-pub fn front(l: &[u32], n: usize) -> &[u32]
+pub fn front<T>(l: &[T], n: usize) -> &[T]
     ensures { result.now ≡ take n l.now }
 {
-    if n < l.len() { &l[..n] } else { l }
+    l.get(..n).unwrap_or(l)
 }
 
 // The same, lent to be written.
-pub fn part(l: &mut [u32], n: usize) -> &mut [u32]
+pub fn part<T>(l: &mut [T], n: usize) -> &mut [T]
     ensures { result.now ≡ take n l.old }
 {
-    if n < l.len() { &mut l[..n] } else { l }
+    let end = n.min(l.len());
+    &mut l[..end]
 }
 
-pub fn signed_part(l: &mut [i32], n: usize) -> &mut [i32]
-    ensures { result.now ≡ take n l.old }
-{
-    if n < l.len() { &mut l[..n] } else { l }
-}
-
-// The number at a place; 0 behind the end.
+// The number at a place; 0 behind the end, since the programs read what a line leaves out as 0 and did so from the first.
 pub fn number_at(l: &[u32], k: usize) -> u32
     ensures { result ≡ slice_index l.now k }
 {
-    if k < l.len() { l[k] } else { 0 }
-}
-
-// The same, where the number is a size.
-pub fn size_at(l: &[u32], k: usize) -> usize
-    ensures { result ≡ slice_index l.now k }
-{
-    number_at(l, k) as usize
+    l.get(k).copied().unwrap_or(0)
 }

@@ -1,39 +1,20 @@
-// Places and parts of a text.
-ghost use Rattle.std.specs.Prelude.{◌≡◌, ◌+◌, ◌%◌, ◌^◌, ◌<◌, ◌≤◌, [], length};
-ghost use Rattle.std.proofs.Math.Seq.{slice};
+// Places of a text, and its lines.
 ghost use Rattle.lines.specs.Text.{First};
 
-// One further; from the highest place, the first.
-pub fn next(k: usize) -> usize
-    ensures { result ≡ (k + 1) % 2 ^ 64 }
-{
-    std::num::wrapping_add_usize(k, 1)
-}
-
-// The place of the first such byte from a place on; the text's length, if there is none.
-pub fn find(t: &[u8], from: usize, b: u8) -> usize
+// The place of the first such byte from a place on.
+pub fn find(t: &[u8], from: usize, b: u8) -> Option<usize>
     ensures { First b from t.now result }
 {
-    let mut k = from;
-    while k < t.len() {
-        if t[k] == b {
-            return k;
-        }
-        k += 1;
-    }
-    t.len()
+    (from..t.len()).find(|k| t[*k] == b)
 }
 
-// The part from a place up to another; nothing, where the text has no such part.
-pub fn between(t: &[u8], a: usize, b: usize) -> &[u8]
-    ensures part { a ≤ b → b ≤ length t.now → result.now ≡ slice a b t.now }
-    ensures none { (b < a → result.now ≡ []) × (length t.now < b → result.now ≡ []) }
+// Hands on each line of a text, without its end: what no line end follows is no line.
+pub fn each_line<F: FnMut(&[u8])>(t: &[u8], mut each: F)
+    requires { F.IsAlwaysCallable each }
 {
-    if t.len() < b {
-        return &t[..0];
+    for line in t.split_inclusive(|b| *b == b'\n') {
+        if let Some(line) = line.strip_suffix(b"\n") {
+            each(line);
+        }
     }
-    if b < a {
-        return &t[..0];
-    }
-    &t[a..b]
 }

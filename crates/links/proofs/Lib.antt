@@ -9,3 +9,5 @@ pub mod Rows
 pub mod Gathering
 pub mod Descending
 pub mod Leading
+pub mod SameNodes
+pub mod Endings

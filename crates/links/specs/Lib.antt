@@ -7,3 +7,5 @@ pub mod Way
 pub mod Shown
 pub mod Taking
 pub mod Lead
+pub mod Nodes
+pub mod Ending

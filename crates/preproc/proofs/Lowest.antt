@@ -9,6 +9,7 @@ use mathlib.Core.Option.{some}
 use borrow.Author.Tests.{lt-ltb, le-ltb}
 use lib.Dec.{T, ltb}
 use lib.ListN.{length}
+use Rattle.std.specs.Prelude.{Option, Some, None, MatchOption}
 use lib.IntN.{ℤ}
 use Rattle.rules.specs.Lists.{from, up_to, first_that}
 use Rattle.rules.specs.State.{in_live}
@@ -17,6 +18,7 @@ use Rattle.theorems.proofs.Words.Lists.{In-up_to}
 use Rattle.theorems.proofs.Words.Choices.{none-first_that}
 use Rattle.links.specs.Head.{item_of, head}
 use Rattle.links.specs.Ground.{Ground}
+use Rattle.links.specs.Nodes.{column}
 use Rattle.links.proofs.Stores.{same?}
 use Rattle.showing.specs.Showing.{state_of, column_or}
 use Rattle.showing.proofs.Results.{live_test}
@@ -55,9 +57,19 @@ module _ {g : Ground} {np : ℕ} {heads : List ℤ} (k : Looking g np heads) whe
     look-found a z =
         sym (ap (column_or 0) (first-at (λ q. not (in_live q (state_of g))) 0 np i (omega arith) (omega arith) (λ j x y. ap not (a j y)) (ap not (live-is ∙ le-ltb 0 (item_of (head heads (i + 1))) (omega arith)))))
 
-    pub look-next : AllLive g i → item_of (head heads (i + 1)) ≢ 0 → AllLive g (i + 1)
-    look-next a z q m = ⊎_elim (λ s. ap (λ (x : ℕ). in_live x (state_of g)) s ∙ live-is ∙ lt-ltb 0 (item_of (head heads (i + 1))) (omega arith)) (λ d. a q (omega arith)) (same? q i)
+    live : item_of (head heads (i + 1)) ≢ 0 → in_live i (state_of g) ≡ true
+    live d = live-is ∙ lt-ltb 0 (item_of (head heads (i + 1))) (omega (arith, d))
 
   pub look-end : (i : ℕ) → np ≤ i → AllLive g i → 0 ≡ column_or 0 (uncovered np (state_of g))
   unfolding uncovered
   look-end i l a = sym (ap (column_or 0) (none-first_that (λ q. not (in_live q (state_of g))) (up_to np) (λ q m. subst T (sym (ap (λ (b : Bool). not (not b)) (a q (omega (arith, In-up_to np m))))) tt)))
+
+  -- what `find` gives over the headers of the primary items
+  pub looked : (r : Option ℕ) → MatchOption r ((c : ℕ) → 1 ≤ c → c < np + 1 → item_of (head heads c) ≢ 0)
+      (λ c. (1 ≤ c) × (c < np + 1) × (item_of (head heads c) ≡ 0) × ((b : ℕ) → 1 ≤ b → b < c → item_of (head heads b) ≢ 0))
+      → r ≡ column (column_or 0 (uncovered np (state_of g)))
+  looked None h = ap column (look-end np (omega arith) (λ q l. live q l (h (q + 1) (omega arith) (omega arith))))
+  looked (Some zero) h = absurd (omega (arith, h.0))
+  looked (Some (suc i)) h =
+      let s : suc i ≡ i + 1 = omega arith in
+      ap column (s ∙ look-found i (omega (arith, h.1)) (λ q l. live q (omega (arith, l, h.1)) (h.3 (q + 1) (omega arith) (omega (arith, l)))) (subst (λ (c : ℕ). item_of (head heads c) ≡ 0) s h.2))

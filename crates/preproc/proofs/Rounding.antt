@@ -10,6 +10,8 @@ use borrow.Author.Tests.{lt-ltb, le-ltb}
 use lib.Dec.{ltb}
 use lib.ListN.{length}
 use lib.IntN.{ℤ}
+use Rattle.std.specs.Prelude.{Ok, Err}
+use Rattle.rules.specs.Paper.{cause_number}
 use Rattle.rules.specs.Lists.{from}
 use Rattle.rules.specs.State.{State, Step, went, in_live}
 use Rattle.rules.specs.Rounds.{Finding, item_step, item_steps, round, after_round, rounds}
@@ -19,12 +21,14 @@ use Rattle.links.specs.Ground.{Ground}
 use Rattle.links.proofs.Plans.{header-before}
 use Rattle.showing.specs.Showing.{state_of}
 use Rattle.showing.proofs.Results.{live_test}
+use Rattle.preproc.specs.declared.stop.Stop.{Stop}
 use Rattle.preproc.specs.Standing.{Standing, Figured, Holding, Stepped, Ended}
 use Rattle.preproc.proofs.Unrolling.{steps-over, steps-went, steps-emptied, steps-done, round-steps, rounds-after, rounds-done}
 
--- a step's answer under another plan's name
-stepped-plan : {P Q : Plan} {step : Step} {item cause : ℕ} {removed : Bool} {heads : List ℤ} {up down tints marks : List ℕ} → P ≡ Q → Stepped P step item cause removed heads up down tints marks → Stepped Q step item cause removed heads up down tints marks
-stepped-plan {P} {Q} {step} {item} {cause} {removed} {heads} {up} {down} {tints} {marks} e t = subst (λ (X : Plan). Stepped X step item cause removed heads up down tints marks) e t
+-- what a step goes on with, under another plan's name
+goes-plan : {P Q : Plan} {x : Step} {more : Bool} {heads : List ℤ} {up down tints marks : List ℕ} → P ≡ Q
+    → (s : State) × (x ≡ went s more) × Holding P s heads up down tints marks → (s : State) × (x ≡ went s more) × Holding Q s heads up down tints marks
+goes-plan {x = x} {more = more} {heads} {up} {down} {tints} {marks} e t = subst (λ (X : Plan). (s : State) × (x ≡ went s more) × Holding X s heads up down tints marks) e t
 
 -- A round is at item i: the lists hold the state, and the rest of the round is the rules' rest.
 pub record Going (P : Plan) (total : Step) (np n i : ℕ) (removed : Bool) (heads : List ℤ) (up down tints marks : List ℕ) : Type 0 where
@@ -42,10 +46,10 @@ round-begin {g} np n s = record {
 module _ {P : Plan} {first np n : ℕ} (f : Figured P first np) (m : n ≡ P.n) where
   module _ {total : Step} {i : ℕ} {removed : Bool} {heads : List ℤ} {up down tints marks : List ℕ} (G : Going P total np n i removed heads up down tints marks) where
     -- at the end nothing is left
-    pub round-end : n ≤ i → Stepped P total 0 0 removed heads up down tints marks
+    pub round-end : n ≤ i → Stepped P total (Ok removed) heads up down tints marks
     round-end l = record {
-      stops = λ q. absurd (q refl);
-      goes = λ q. (G.state, G.rest ∙ (let e : n - i ≡ 0 = omega arith in ap (λ (k : ℕ). item_steps np (from i k) G.state removed) e) ∙ steps-done np G.state removed, G.holding);
+      stops = tt;
+      goes = (G.state, G.rest ∙ (let e : n - i ≡ 0 = omega arith in ap (λ (k : ℕ). item_steps np (from i k) G.state removed) e) ∙ steps-done np G.state removed, G.holding);
     }
 
     module _ (l : i < n) where
@@ -88,20 +92,24 @@ module _ {P : Plan} {first np n : ℕ} (f : Figured P first np) (m : n ≡ P.n) 
       }
 
       -- any other takes its step
-      module _ (z : item_of (head heads (i + 1)) ≢ 0) {item cause : ℕ} {more : Bool} {heads' : List ℤ} {up' down' tints' marks' : List ℕ} (t : Stepped G.holding.ground.plan (item_step np i (state_of G.holding.ground)) item cause more heads' up' down' tints' marks') where
+      module _ (z : item_of (head heads (i + 1)) ≢ 0) where
         live : in_live i G.state ≡ true
         live = live-is ∙ lt-ltb 0 (item_of (head heads (i + 1))) (omega arith)
 
         same_step : item_step np i G.state ≡ item_step np i (state_of G.holding.ground)
         same_step = ap (item_step np i) (sym G.holding.shows)
 
-        pub round-stop : item ≢ 0 → Stepped P total item cause more heads' up' down' tints' marks'
-        round-stop q = record
-            { stops = λ u. one_more ∙ steps-emptied np i (from (i + 1) (n - (i + 1))) G.state removed (item - 1) cause live (same_step ∙ t.stops q); goes = λ u. absurd (q u) }
+        pub round-stop : {stop : Stop} {heads' : List ℤ} {up' down' tints' marks' : List ℕ} → Stepped G.holding.ground.plan (item_step np i (state_of G.holding.ground)) (Err stop) heads' up' down' tints' marks'
+            → Stepped P total (Err stop) heads' up' down' tints' marks'
+        round-stop {stop} t = record {
+          stops = (t.stops.0, one_more ∙ steps-emptied np i (from (i + 1) (n - (i + 1))) G.state removed (stop.column - 1) (cause_number stop.cause) live (same_step ∙ t.stops.1));
+          goes = tt;
+        }
 
-        pub round-next : item ≡ 0 → Going P total np n (i + 1) (removed || more) heads' up' down' tints' marks'
-        round-next q =
-            let w = (stepped-plan G.holding.plan t).goes q in
+        pub round-next : {more : Bool} {heads' : List ℤ} {up' down' tints' marks' : List ℕ} → Stepped G.holding.ground.plan (item_step np i (state_of G.holding.ground)) (Ok more) heads' up' down' tints' marks'
+            → Going P total np n (i + 1) (removed || more) heads' up' down' tints' marks'
+        round-next {more} t =
+            let w = goes-plan G.holding.plan t.goes in
             record {
               state = w.0;
               holding = w.2;
@@ -124,11 +132,11 @@ rounds-begin {g} np n cap s = record {
 module _ {P : Plan} {first np n : ℕ} (f : Figured P first np) (m : n ≡ P.n) (cap : ℕ) where
   module _ {total : Finding} {r : ℕ} {heads : List ℤ} {up down tints marks : List ℕ} (G : Turning P total np n cap r heads up down tints marks) where
     -- the cap is reached
-    pub rounds-end : cap ≤ r → Ended P total 0 0 r false heads up down tints marks
-    rounds-end l = record {
-      stops = λ q. absurd (q refl);
-      goes = λ q. (G.state, G.rest ∙ (let e : cap - r ≡ 0 = omega arith in ap (λ (k : ℕ). rounds np n k r G.state) e) ∙ rounds-done np n r G.state, G.holding);
-    }
+    pub rounds-end : {ran : ℕ} → cap ≤ r → ran ≡ r → Ended P total (Ok (record { rounds = ran; settled = false })) heads up down tints marks
+    rounds-end l a = rw a (record {
+      stops = tt;
+      goes = (G.state, G.rest ∙ (let e : cap - r ≡ 0 = omega arith in ap (λ (k : ℕ). rounds np n k r G.state) e) ∙ rounds-done np n r G.state, G.holding);
+    })
 
     pub rounds-figured : Figured G.holding.ground.plan first np
     rounds-figured = subst (λ (X : Plan). Figured X first np) (sym G.holding.plan) f
@@ -136,7 +144,7 @@ module _ {P : Plan} {first np n : ℕ} (f : Figured P first np) (m : n ≡ P.n) 
     pub rounds-items : n ≡ G.holding.ground.plan.n
     rounds-items = m ∙ ap (λ (X : Plan). X.n) (sym G.holding.plan)
 
-    module _ (l : r < cap) {item cause : ℕ} {more : Bool} {heads' : List ℤ} {up' down' tints' marks' : List ℕ} (t : Stepped G.holding.ground.plan (round np n (state_of G.holding.ground)) item cause more heads' up' down' tints' marks') where
+    module _ (l : r < cap) where
       turn_more : {x : Step} → round np n (state_of G.holding.ground) ≡ x → total ≡ after_round x (r + 1) (λ s'. rounds np n (cap - (r + 1)) (r + 1) s')
       turn_more {x} q =
           let e : cap - r ≡ suc (cap - (r + 1)) = omega arith in
@@ -145,15 +153,14 @@ module _ {P : Plan} {first np n : ℕ} (f : Figured P first np) (m : n ≡ P.n) 
           ∙ rounds-after np n (cap - (r + 1)) r G.state (ap (round np n) (sym G.holding.shows) ∙ q)
           ∙ ap (λ (k : ℕ). after_round x k (λ s'. rounds np n (cap - (r + 1)) k s')) (sym (add-one r))
 
-      pub rounds-stop : item ≢ 0 → Ended P total item cause (r + 1) false heads' up' down' tints' marks'
-      rounds-stop q = record { stops = λ u. turn_more (t.stops q); goes = λ u. absurd (q u) }
+      pub rounds-stop : {stop : Stop} {heads' : List ℤ} {up' down' tints' marks' : List ℕ} → Stepped G.holding.ground.plan (round np n (state_of G.holding.ground)) (Err stop) heads' up' down' tints' marks'
+          → Ended P total (Err (record { column = stop.column; cause = stop.cause; round = r + 1 })) heads' up' down' tints' marks'
+      rounds-stop t = record { stops = (t.stops.0, turn_more t.stops.1); goes = tt }
 
-      module _ (q : item ≡ 0) where
-        w : (s : State) × (round np n (state_of G.holding.ground) ≡ went s more) × Holding P s heads' up' down' tints' marks'
-        w = (stepped-plan G.holding.plan t).goes q
+      pub rounds-settled : {heads' : List ℤ} {up' down' tints' marks' : List ℕ} → Stepped G.holding.ground.plan (round np n (state_of G.holding.ground)) (Ok false) heads' up' down' tints' marks'
+          → Ended P total (Ok (record { rounds = r + 1; settled = true })) heads' up' down' tints' marks'
+      rounds-settled t = let w = goes-plan G.holding.plan t.goes in record { stops = tt; goes = (w.0, turn_more w.1, w.2) }
 
-        pub rounds-settled : more ≡ false → Ended P total 0 0 (r + 1) true heads' up' down' tints' marks'
-        rounds-settled b = record { stops = λ u. absurd (u refl); goes = λ u. (w.0, turn_more (w.1 ∙ ap (went w.0) b), w.2) }
-
-        pub rounds-next : more ≡ true → Turning P total np n cap (r + 1) heads' up' down' tints' marks'
-        rounds-next b = record { state = w.0; holding = w.2; rest = turn_more (w.1 ∙ ap (went w.0) b) }
+      pub rounds-next : {heads' : List ℤ} {up' down' tints' marks' : List ℕ} → Stepped G.holding.ground.plan (round np n (state_of G.holding.ground)) (Ok true) heads' up' down' tints' marks'
+          → Turning P total np n cap (r + 1) heads' up' down' tints' marks'
+      rounds-next t = let w = goes-plan G.holding.plan t.goes in record { state = w.0; holding = w.2; rest = turn_more w.1 }

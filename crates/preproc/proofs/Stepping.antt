@@ -33,7 +33,9 @@ use Rattle.condemning.specs.Search.{down_to, Chain, Search, Hiding, Tried, Spari
 use Rattle.condemning.proofs.Chains.{down-reverse}
 use Rattle.condemning.proofs.Knowing.{known-pass}
 use Rattle.condemning.proofs.Sparing.{down-front}
-use Rattle.preproc.specs.Standing.{Standing, Figured, Stepped}
+use Rattle.rules.specs.declared.answer.Cause.TheVariants.{Redundant, Blocked}
+use Rattle.preproc.specs.Standing.{Standing, Figured}
+use Rattle.preproc.proofs.Coming.{Came}
 
 -- lists that are others' are held as well
 pub held_same : {h : Ground} {heads heads' : List ℤ} {up up' down down' : List ℕ} → Holds h heads up down → heads' ≡ heads → up' ≡ up → down' ≡ down → Holds h heads' up' down'
@@ -86,7 +88,7 @@ module _ {g : Ground} (i : ℕ) {c first np : ℕ} {heads : List ℤ} {up down t
             known-pass g (removed g c p heads₃ up₃ down₃) g.on (mask_without g c p) marks refl (λ y o. (stays→ g c p y o).0)
             (λ y x m o ex k. r.same q x ex (λ j. (stays y o m).1 (sym k ∙ j))) s.known
 
-        pub step-removed : Stepped g.plan (item_step np i (state_of g)) z 2 true heads₃ up₃ down₃ tints marks
+        pub step-removed : Came g.plan (item_step np i (state_of g)) z Redundant true heads₃ up₃ down₃ tints marks
         step-removed = record {
           stops = λ m. removing-empties g R np i (p - 1) one (z - 1) (sym answer ∙ omega arith);
           goes = λ q. (
@@ -145,7 +147,7 @@ module _ {g : Ground} (i : ℕ) {c first np : ℕ} {heads : List ℤ} {up down t
           fresh : Fresh g (deletes g (down_to (condemned_at np i g) g.plan.N))
           fresh = deletes-fresh g R (down_to (condemned_at np i g) g.plan.N) C.entry C.on apart
 
-          pub step-deleted : Stepped g.plan (item_step np i (state_of g)) z 3 b heads₄ up₄ down₄ tints₂ marks₂
+          pub step-deleted : Came g.plan (item_step np i (state_of g)) z Blocked b heads₄ up₄ down₄ tints₂ marks₂
           step-deleted = record {
             stops = λ m. deleting-empties g R np i quiet (down_to (condemned_at np i g) g.plan.N) C (z - 1) (sym d.answer ∙ omega arith);
             goes = λ x. (

@@ -2,67 +2,43 @@
 ghost use Rattle.std.specs.Prelude.{◌≡◌, ℕ, ◌+◌};
 ghost use Rattle.rules.specs.Rounds.{item_step};
 ghost use Rattle.links.specs.Ground.{Ground};
+ghost use Rattle.links.specs.Nodes.{in_nodes, SameNodes};
 ghost use Rattle.links.specs.Plan.{Header};
 ghost use Rattle.showing.specs.Showing.{state_of};
 ghost use Rattle.preproc.specs.Standing.{Standing, Figured, Stepped};
 
+use crate::stop::{Stop, because};
 use condemning::condemn::{condemn, delete_condemned};
 use hiding::away::hide;
 use hiding::back::unhide;
+use links::nodes::Nodes;
 use removing::remove::remove_item;
-
-// What a step or a round comes to: the column of the primary item that was left in no option and the cause, or 0; and whether an item or an
-// option was removed.
-#[derive(Clone, Copy)]
-pub struct Step {
-    pub item: usize,
-    pub cause: u32,
-    pub removed: bool,
-}
+use rules::answer::Cause;
 
 // Item c - 1, of column c, takes its step: it is removed if it is redundant, else the blocked options that begin with it are deleted. Hiding it shows
-// which: a primary item that is left in no option then is one for which it is redundant, and the last of them is the one to take.
+// which: a primary item that is left in no option then is one for which it is redundant, and the last of them is the one to take. Whether an item or an
+// option was removed.
 pub fn reduce_options(
-    heads: &mut [i32],
-    up: &mut [u32],
-    down: &mut [u32],
+    nodes: &mut Nodes,
     tints: &mut [u32],
     marks: &mut [u32],
     c: usize,
-    start: usize,
-    np: usize,
-) -> Step
-    requires { (g : Ground) × (i : ℕ) × Standing g heads.old up.old down.old tints.old marks.old × Figured g.plan start np × (c ≡ i + 1) × Header g.plan c }
-    ensures { (g : Ground) (i : ℕ) → Standing g heads.old up.old down.old tints.old marks.old → Figured g.plan start np
-        → c ≡ i + 1 → Header g.plan c
-        → Stepped g.plan (item_step np i (state_of g)) result.item result.cause result.removed heads.new up.new down.new tints.new marks.new }
+) -> Result<bool, Stop>
+    requires { (g : Ground) × (i : ℕ) × in_nodes (Standing g) nodes.old tints.old marks.old
+        × Figured g.plan nodes.old.start nodes.old.np × (c ≡ i + 1) × Header g.plan c }
+    ensures nodes { SameNodes nodes.old nodes.new }
+    ensures step { (g : Ground) (i : ℕ) → in_nodes (Standing g) nodes.old tints.old marks.old
+        → Figured g.plan nodes.old.start nodes.old.np → c ≡ i + 1 → Header g.plan c
+        → in_nodes (Stepped g.plan (item_step nodes.old.np i (state_of g)) result) nodes.new tints.new marks.new }
 {
-    let p = hide(&mut *heads, &mut *up, &mut *down, &*tints, c, start, np);
-    if p != 0 {
-        unhide(&mut *heads, &mut *up, &mut *down, &*tints, c, start);
-        let z = remove_item(&mut *heads, &mut *up, &mut *down, c, p, start, np);
-        return Step {
-            item: z,
-            cause: 2,
-            removed: true,
-        };
+    if let Some(p) = hide(nodes, tints, c) {
+        unhide(nodes, tints, c);
+        because(remove_item(nodes, c, p), Cause::Redundant)?;
+        return Ok(true);
     }
     // all tests see the same nodes; what they find is deleted afterwards
-    let last = condemn(
-        &mut *heads,
-        &mut *up,
-        &mut *down,
-        &mut *tints,
-        &mut *marks,
-        c,
-        start,
-        np,
-    );
-    unhide(&mut *heads, &mut *up, &mut *down, &*tints, c, start);
-    let z = delete_condemned(&mut *heads, &mut *up, &mut *down, &*tints, last, np);
-    Step {
-        item: z,
-        cause: 3,
-        removed: last != 0,
-    }
+    let last = condemn(nodes, tints, marks, c);
+    unhide(nodes, tints, c);
+    because(delete_condemned(nodes, tints, last), Cause::Blocked)?;
+    Ok(last.is_some())
 }

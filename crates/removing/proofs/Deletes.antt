@@ -41,7 +41,7 @@ pub record Midway (g : Ground) (r np : ℕ) (heads : List ℤ) (up down : List �
   pub holds : Holds (taken g (walked g r q)) heads up down
   pub none : first_out g np (walked g r q) ≡ 0
 
-module _ (g : Ground) (r : ℕ) (heads₀ : List ℤ) (up₀ down₀ : List ℕ) (d : Deleting g r heads₀ up₀ down₀) where
+module _ {g : Ground} {r : ℕ} {heads₀ : List ℤ} {up₀ down₀ : List ℕ} (d : Deleting g r heads₀ up₀ down₀) where
   t : Tidy g
   t = d.tidy
 
@@ -60,7 +60,7 @@ module _ (g : Ground) (r : ℕ) (heads₀ : List ℤ) (up₀ down₀ : List ℕ)
   walked-fresh : (q : ℕ) → At g r q → Fresh g (walked g r q)
   walked-fresh q a = let f = walked-front g r e q a in fresh-front g (walked g r q) f.0 (subst (Fresh g) f.1 others-fresh)
 
-  module _ (np : ℕ) where
+  module _ {np : ℕ} where
     pub begins : Midway g r np heads₀ up₀ down₀ (r + 1)
     begins = record {
       place = walk_begins g t r e;
@@ -68,7 +68,7 @@ module _ (g : Ground) (r : ℕ) (heads₀ : List ℤ) (up₀ down₀ : List ℕ)
       none = ap (first_out g np) (walked_none g t r e);
     }
 
-    module _ (heads : List ℤ) (up down : List ℕ) (q : ℕ) (m : Midway g r np heads up down q) where
+    module _ {heads : List ℤ} {up down : List ℕ} {q : ℕ} (m : Midway g r np heads up down q) where
       fresh : Fresh g (walked g r q)
       fresh = walked-fresh q m.place
 
@@ -126,7 +126,7 @@ module _ (g : Ground) (r : ℕ) (heads₀ : List ℤ) (up₀ down₀ : List ℕ)
           more : walked g r (q + 1) ≡ walked g r q ++ (q ∷ [])
           more = full-walked g t r e q m.place other some
 
-          module _ (heads' : List ℤ) (up' down' : List ℕ) (z : ℕ) (o : Deleted (taken g (walked g r q)) np (q ∷ []) heads' up' down' z) where
+          module _ {heads' : List ℤ} {up' down' : List ℕ} {z : ℕ} (o : Deleted (taken g (walked g r q)) np (q ∷ []) heads' up' down' z) where
             so_far : z ≡ first_out g np (walked g r (q + 1))
             so_far = o.answer ∙ sym (first-none g np (walked g r q) (q ∷ []) t fresh m.none) ∙ ap (first_out g np) (sym more)
 

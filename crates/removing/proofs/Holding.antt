@@ -31,7 +31,7 @@ pub record Looking (g : Ground) (r p q : ℕ) : Type 0 where
   pub place : At g r q
   pub none : any (λ y. eqb (g.plan.col y) p) (walked g r q) ≡ false
 
-module _ (g : Ground) (r : ℕ) (heads : List ℤ) (up : List ℕ) (w : Walking g r heads up) where
+module _ {g : Ground} {r : ℕ} {heads : List ℤ} {up : List ℕ} (w : Walking g r heads up) where
   t : Tidy g
   t = w.tidy
 
@@ -44,11 +44,11 @@ module _ (g : Ground) (r : ℕ) (heads : List ℤ) (up : List ℕ) (w : Walking 
   pub looks-fits : r + 1 < 1048576
   looks-fits = omega (arith, entry-till g.plan t.planned r e, t.planned.small)
 
-  module _ (p : ℕ) where
+  module _ {p : ℕ} where
     pub looks-begin : Looking g r p (r + 1)
     looks-begin = record { place = walk_begins g t r e; none = ap (any (λ y. eqb (g.plan.col y) p)) (walked_none g t r e) }
 
-    module _ (q : ℕ) (m : Looking g r p q) where
+    module _ {q : ℕ} (m : Looking g r p q) where
       pub looks-in : (q < length heads) × (q < length up) × (q + 1 < 1048576)
       looks-in =
           let i = place_in g t r e q m.place in

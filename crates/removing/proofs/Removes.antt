@@ -35,7 +35,7 @@ pub record Place (g : Ground) (c p np : ℕ) (heads : List ℤ) (up down : List 
   pub stand : Stand g c r
   pub so_far : Going g c p np heads up down (reach g.plan r)
 
-module _ (g : Ground) (c p first : ℕ) (heads₀ : List ℤ) (up₀ down₀ : List ℕ) (Q : Removing g c p first heads₀ up₀ down₀) where
+module _ {g : Ground} {c p first : ℕ} {heads₀ : List ℤ} {up₀ down₀ : List ℕ} (Q : Removing g c p first heads₀ up₀ down₀) where
   R : Ready g
   R = Q.ready
 
@@ -45,7 +45,7 @@ module _ (g : Ground) (c p first : ℕ) (heads₀ : List ℤ) (up₀ down₀ : L
   pub remove-in : c < length down₀
   remove-in = rw Q.holds.down-are (omega (arith, header-before g.plan t.planned c Q.item, t.planned.room, t.ring.downs))
 
-  module _ (np : ℕ) where
+  module _ {np : ℕ} where
     pub remove-begin : Place g c p np heads₀ up₀ down₀ (at down₀ c)
     remove-begin = rw (Q.holds.heads-are, Q.holds.up-are, Q.holds.down-are) (record {
       stand = stand-next g t c Q.item c top;
@@ -56,7 +56,7 @@ module _ (g : Ground) (c p first : ℕ) (heads₀ : List ℤ) (up₀ down₀ : L
         top : Stand g c c
         top = stand-header g t c Q.item (R.whole.headers c Q.item)
 
-    module _ (heads : List ℤ) (up down : List ℕ) (r : ℕ) (M : Place g c p np heads up down r) where
+    module _ {heads : List ℤ} {up down : List ℕ} {r : ℕ} (M : Place g c p np heads up down r) where
       pub remove-node : (r < length heads₀) × (r < length down₀)
       remove-node =
           let i = stand-in g t c Q.item r M.stand in
@@ -79,7 +79,7 @@ module _ (g : Ground) (c p first : ℕ) (heads₀ : List ℤ) (up₀ down₀ : L
         onwards : (next : ℕ) → next ≡ at down r → next ≡ at g.down r
         onwards next e = e ∙ here.ahead r M.stand.on M.stand.col (omega arith)
 
-        module _ (heads' : List ℤ) (up' down' : List ℕ) (z : ℕ) (D : Dropped (midst g c p r heads up down) np r p heads' up' down' z) where
+        module _ {heads' : List ℤ} {up' down' : List ℕ} {z : ℕ} (D : Dropped (midst g c p r heads up down) np r p heads' up' down' z) where
           found : z ≡ first_out (off_column g c) np (going g c p (r + 1))
           found = passed_first g R c p np heads up down r here entry M.stand.on M.stand.col Q.apart heads' up' down' z D
 
@@ -91,8 +91,8 @@ module _ (g : Ground) (c p first : ℕ) (heads₀ : List ℤ) (up₀ down₀ : L
             same = λ e. absurd (n e);
           }
 
-          pub remove-next : z ≡ 0 → (next : ℕ) → next ≡ at down r → Place g c p np heads' up' down' next
-          remove-next e next s =
+          pub remove-next : z ≡ 0 → {next : ℕ} → next ≡ at down r → Place g c p np heads' up' down' next
+          remove-next e {next} s =
               subst (Place g c p np heads' up' down') (sym (onwards next s))
               (record {
                 stand = stand-next g t c Q.item r M.stand;
@@ -101,8 +101,8 @@ module _ (g : Ground) (c p first : ℕ) (heads₀ : List ℤ) (up₀ down₀ : L
                     (step-far g t c Q.item r M.stand).0 (step-gap g t c Q.item r M.stand);
               })
 
-        pub remove-way : (next : ℕ) → next ≡ at down r → left (length heads₀) first next < left (length heads₀) first r
-        remove-way next s =
+        pub remove-way : {next : ℕ} → next ≡ at down r → left (length heads₀) first next < left (length heads₀) first r
+        remove-way {next} s =
             rw (onwards next s, Q.starts) (step_less g t c Q.item r M.stand (length heads₀) (rw Q.holds.heads-are t.heads-in) behind)
 
       -- at the header again
@@ -116,7 +116,7 @@ module _ (g : Ground) (c p first : ℕ) (heads₀ : List ℤ) (up₀ down₀ : L
         pub remove-asks : (c < 1048576) × (c < length heads) × (c < length up) × (c < length down)
         remove-asks = (omega (arith, before, t.planned.small), omega (arith, before, done.tidy.heads-in), omega (arith, before, done.tidy.ring.ups), omega (arith, before, done.tidy.ring.downs))
 
-        module _ (heads' : List ℤ) (up' down' : List ℕ) (a : heads' ≡ set heads c (pos 0)) (b : up' ≡ set up c c) (d : down' ≡ set down c c) where
+        module _ {heads' : List ℤ} {up' down' : List ℕ} (a : heads' ≡ set heads c (pos 0)) (b : up' ≡ set up c c) (d : down' ≡ set down c c) where
           tidy : Tidy (removed g c p heads' up' down')
           tidy =
               rw (a, b, d)

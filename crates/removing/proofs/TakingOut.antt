@@ -9,14 +9,14 @@ use borrow.Author.Tests.{eq-eqb, ne_eqb}
 use lib.Dec.{leb, eqb}
 use lib.ListN.{length, set}
 use lib.IntN.{ℤ, pos}
-use Rattle.links.specs.Head.{item_of, head}
+use Rattle.links.specs.Head.{item_of, below_zero, head}
 use Rattle.links.specs.Column.{at, cut_up, cut_down}
 use Rattle.links.specs.Ground.{Ground, Tidy, Within, cut_one, Holds}
 use Rattle.links.specs.Taking.{first_out}
 use Rattle.links.proofs.Grounds.{col-in, length_some, length-small, node_in, cut-up-in, cut-down-in}
 use Rattle.removing.specs.Deleting.{Sitting, Deleted}
 
-module _ (g : Ground) (x : ℕ) (heads : List ℤ) (up down : List ℕ) (s : Sitting g x heads up down) where
+module _ {g : Ground} {x : ℕ} {heads : List ℤ} {up down : List ℕ} (s : Sitting g x heads up down) where
   t : Tidy g
   t = s.tidy
 
@@ -31,16 +31,22 @@ module _ (g : Ground) (x : ℕ) (heads : List ℤ) (up down : List ℕ) (s : Sit
       rw (s.holds.up-are, s.holds.down-are)
       (omega (arith, node_in g t x w, t.ring.ups), omega (arith, node_in g t x w, t.ring.downs), cut-up-in g t x w, cut-down-in g t x w)
 
+  pub sits-number : below_zero (head heads x) ≡ false
+  sits-number = ap (λ (l : List ℤ). below_zero (head l x)) s.holds.heads-are ∙ ap below_zero (t.full x w.entry w.on)
+
   -- the item read at x is its column
-  module _ (i : ℕ) (read : i ≡ item_of (head heads x)) where
+  module _ {i : ℕ} (read : i ≡ item_of (head heads x)) where
     pub sits-item : i ≡ g.plan.col x
     sits-item = read ∙ ap (λ (l : List ℤ). item_of (head l x)) s.holds.heads-are ∙ ap item_of (t.full x w.entry w.on)
+
+    pub sits-some : 0 < i
+    sits-some = rw sits-item (t.planned.entry x w.entry).above
 
     pub sits-length : (i < length heads) × (item_of (head heads i) < 1048576) × (0 < item_of (head heads i))
     sits-length = rw (sits-item, s.holds.heads-are) (col-in g t x w, length-small g t x w, length_some g t x w)
 
     -- the lists afterwards
-    module _ (heads' : List ℤ) (up' down' : List ℕ) (h : heads' ≡ set heads i (pos (item_of (head heads i) - 1))) (u : up' ≡ cut_up up down x) (d : down' ≡ cut_down up down x) where
+    module _ {heads' : List ℤ} {up' down' : List ℕ} (h : heads' ≡ set heads i (pos (item_of (head heads i) - 1))) (u : up' ≡ cut_up up down x) (d : down' ≡ cut_down up down x) where
       out-holds : Holds (cut_one g x) heads' up' down'
       unfolding cut_one
       out-holds = record {
@@ -49,15 +55,15 @@ module _ (g : Ground) (x : ℕ) (heads : List ℤ) (up down : List ℕ) (s : Sit
         down-are = d ∙ rw (s.holds.up-are, s.holds.down-are);
       }
 
-      out_first : (np k : ℕ) → k ≡ item_of (head heads i) - 1 → first_out g np (x ∷ []) ≡ cond (eqb k 0 && leb i np) i 0
-      out_first np k e = rw (e, sits-item, s.holds.heads-are)
+      out_first : (np : ℕ) {k : ℕ} → k ≡ item_of (head heads i) - 1 → first_out g np (x ∷ []) ≡ cond (eqb k 0 && leb i np) i 0
+      out_first np {k} e = rw (e, sits-item, s.holds.heads-are)
 
       -- the column is emptied, and primary, or it is not
-      pub out-emptied : (np k : ℕ) → k ≡ item_of (head heads i) - 1 → k ≡ 0 → leb i np ≡ true → Deleted g np (x ∷ []) heads' up' down' i
-      out-emptied np k e z l = record { answer = sym (out_first np k e ∙ rw (eq-eqb k 0 z, l)); holds = λ _. out-holds }
+      pub out-emptied : {np k : ℕ} → k ≡ item_of (head heads i) - 1 → k ≡ 0 → leb i np ≡ true → Deleted g np (x ∷ []) heads' up' down' i
+      out-emptied {np} {k} e z l = record { answer = sym (out_first np e ∙ rw (eq-eqb k 0 z, l)); holds = λ _. out-holds }
 
-      pub out-not : (np k : ℕ) → k ≡ item_of (head heads i) - 1 → (k ≢ 0) ⊎ (leb i np ≡ false) → Deleted g np (x ∷ []) heads' up' down' 0
-      out-not np k e n = record { answer = sym (out_first np k e ∙ ⊎_elim (λ a. rw (ne_eqb k 0 a)) (λ a. last (eqb k 0) a) n); holds = λ _. out-holds }
+      pub out-not : {np k : ℕ} → k ≡ item_of (head heads i) - 1 → (k ≢ 0) ⊎ (leb i np ≡ false) → Deleted g np (x ∷ []) heads' up' down' 0
+      out-not {np} {k} e n = record { answer = sym (out_first np e ∙ ⊎_elim (λ a. rw (ne_eqb k 0 a)) (λ a. last (eqb k 0) a) n); holds = λ _. out-holds }
         where
           last : (b : Bool) → leb i np ≡ false → cond (b && leb i np) i 0 ≡ 0
           last true q = rw q

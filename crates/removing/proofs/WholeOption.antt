@@ -12,10 +12,10 @@ use Rattle.removing.specs.Deleting.{Sitting, Deleting, Deleted}
 use Rattle.removing.proofs.Emptying.{first_some, first-none}
 use Rattle.removing.proofs.Deletes.{others-fresh}
 
-module _ (g : Ground) (r : ℕ) (heads₀ : List ℤ) (up₀ down₀ : List ℕ) (d : Deleting g r heads₀ up₀ down₀) (w : Within g r) (np : ℕ)
-    (heads : List ℤ) (up down : List ℕ) (z : ℕ) (o : Deleted g np (others g r) heads up down z) where
+module _ {g : Ground} {r : ℕ} {heads₀ : List ℤ} {up₀ down₀ : List ℕ} (d : Deleting g r heads₀ up₀ down₀) (w : Within g r) {np : ℕ}
+    {heads : List ℤ} {up down : List ℕ} {z : ℕ} (o : Deleted g np (others g r) heads up down z) where
   fresh : Fresh g (others g r)
-  fresh = others-fresh g r heads₀ up₀ down₀ d
+  fresh = others-fresh d
 
   pub whole-stop : z ≢ 0 → Deleted g np (others g r ++ (r ∷ [])) heads up down z
   whole-stop n = record { answer = o.answer ∙ sym (first_some g np (others g r) (r ∷ []) (λ e. n (o.answer ∙ e))); holds = λ e. absurd (n e) }
@@ -27,9 +27,9 @@ module _ (g : Ground) (r : ℕ) (heads₀ : List ℤ) (up₀ down₀ : List ℕ)
     holds = o.holds e;
   }
 
-  pub whole-last : z ≡ 0 → (heads' : List ℤ) (up' down' : List ℕ) (z' : ℕ) → Deleted (taken g (others g r)) np (r ∷ []) heads' up' down' z'
+  pub whole-last : z ≡ 0 → {heads' : List ℤ} {up' down' : List ℕ} {z' : ℕ} → Deleted (taken g (others g r)) np (r ∷ []) heads' up' down' z'
       → Deleted g np (others g r ++ (r ∷ [])) heads' up' down' z'
-  whole-last e heads' up' down' z' l = record {
+  whole-last e {heads'} {up'} {down'} l = record {
     answer = l.answer ∙ sym (first-none g np (others g r) (r ∷ []) d.tidy fresh (sym o.answer ∙ e));
     holds = λ s. subst (λ (h : Ground). Holds h heads' up' down') (sym (taken-append g (others g r) (r ∷ []))) (l.holds s);
   }

@@ -1,69 +1,60 @@
-// Deleting an option: its entries leave their columns, and the first primary item that loses its last option is told.
+// Deleting an option: its entries leave their columns, and the first primary item that loses its last option ends it.
 ghost use Rattle.std.specs.Prelude.{◌≡◌, List, [], ◌∷◌, ◌++◌, ℕ};
+ghost use Rattle.links.specs.Ending.{ending};
 ghost use Rattle.links.specs.Ground.{Ground, Within};
+ghost use Rattle.links.specs.Nodes.{in_nodes, SameNodes};
 ghost use Rattle.links.specs.Row.{others};
 ghost use Rattle.removing.specs.Deleting.{Sitting, Deleting, Deleted};
 
-use links::column::{fewer, link, unlink};
-use links::head::item_at;
+use links::emptied::Emptied;
+use links::nodes::Nodes;
 
-// Takes entry x out of its column; the column's number if that empties it and its item is primary, else 0.
-pub fn take_out(heads: &mut [i32], up: &mut [u32], down: &mut [u32], x: usize, np: usize) -> usize
-    requires { (g : Ground) × Sitting g x heads.old up.old down.old }
-    ensures { (g : Ground) → Sitting g x heads.old up.old down.old
-        → Deleted g np (x ∷ []) heads.new up.new down.new result }
+// Takes entry x out of its column; an error if that empties it and its item is primary.
+pub fn take_out(nodes: &mut Nodes, x: usize) -> Result<(), Emptied>
+    requires { (g : Ground) × in_nodes (Sitting g x) nodes.old }
+    ensures nodes { SameNodes nodes.old nodes.new }
+    ensures deleted { (g : Ground) → in_nodes (Sitting g x) nodes.old
+        → (z : ℕ) × (result ≡ ending z) × in_nodes (Deleted g nodes.old.np (x ∷ [])) nodes.new z }
 {
-    let i = item_at(&*heads, x);
-    unlink(&mut *up, &mut *down, x);
-    let t = fewer(&mut *heads, i);
-    if t == 0 && i <= np { i } else { 0 }
+    // the head of an entry that isn't shortened is its column
+    let i = nodes.number(x);
+    nodes.unlink(x);
+    if nodes.fewer(i) == 0 && i <= nodes.np {
+        return Err(Emptied { column: i });
+    }
+    Ok(())
 }
 
 // Takes every entry of r's option but r itself out of its column, in cyclic order from the entry after r, until a primary column is
-// emptied: its number, or 0.
-pub fn delete_others(
-    heads: &mut [i32],
-    up: &mut [u32],
-    down: &mut [u32],
-    r: usize,
-    np: usize,
-) -> usize
-    requires { (g : Ground) × Deleting g r heads.old up.old down.old }
-    ensures { (g : Ground) → Deleting g r heads.old up.old down.old
-        → Deleted g np (others g r) heads.new up.new down.new result }
+// emptied.
+pub fn delete_others(nodes: &mut Nodes, r: usize) -> Result<(), Emptied>
+    requires { (g : Ground) × in_nodes (Deleting g r) nodes.old }
+    ensures nodes { SameNodes nodes.old nodes.new }
+    ensures deleted { (g : Ground) → in_nodes (Deleting g r) nodes.old
+        → (z : ℕ) × (result ≡ ending z) × in_nodes (Deleted g nodes.old.np (others g r)) nodes.new z }
 {
     let mut q = r + 1;
+    // a walk along links: each node says which is next
     while q != r {
-        let i = item_at(&*heads, q);
-        if i == 0 {
+        match nodes.item(q) {
             // a boundary, or an entry that was shortened: the link up leads on
-            q = link(&*up, q);
-        } else {
-            let z = take_out(&mut *heads, &mut *up, &mut *down, q, np);
-            if z != 0 {
-                return z;
+            None => q = nodes.above(q),
+            Some(_) => {
+                take_out(nodes, q)?;
+                q += 1;
             }
-            q += 1;
         }
     }
-    0
+    Ok(())
 }
 
 // Deletes r's option: the other entries first, r last.
-pub fn really_delete_option(
-    heads: &mut [i32],
-    up: &mut [u32],
-    down: &mut [u32],
-    r: usize,
-    np: usize,
-) -> usize
-    requires { (g : Ground) × Deleting g r heads.old up.old down.old × Within g r }
-    ensures { (g : Ground) → Deleting g r heads.old up.old down.old → Within g r
-        → Deleted g np (others g r ++ (r ∷ [])) heads.new up.new down.new result }
+pub fn really_delete_option(nodes: &mut Nodes, r: usize) -> Result<(), Emptied>
+    requires { (g : Ground) × in_nodes (Deleting g r) nodes.old × Within g r }
+    ensures nodes { SameNodes nodes.old nodes.new }
+    ensures deleted { (g : Ground) → in_nodes (Deleting g r) nodes.old → Within g r
+        → (z : ℕ) × (result ≡ ending z) × in_nodes (Deleted g nodes.old.np (others g r ++ (r ∷ []))) nodes.new z }
 {
-    let z = delete_others(&mut *heads, &mut *up, &mut *down, r, np);
-    if z != 0 {
-        return z;
-    }
-    take_out(&mut *heads, &mut *up, &mut *down, r, np)
+    delete_others(nodes, r)?;
+    take_out(nodes, r)
 }

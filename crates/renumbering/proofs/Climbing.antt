@@ -1,14 +1,16 @@
 -- A list that rises: neighbour by neighbour, and at any two places. Assumes nothing.
-use Prim.Native.Nat.{ℕ, zero, suc, ◌+◌, ◌-◌, ◌≤◌, ◌<◌}
+use Prim.Native.Nat.{ℕ, zero, suc, ◌+◌, ◌≤◌, ◌<◌}
 use native.Mathlib.Nat.{eq-or-lt_of_le}
 use native.Mathlib.Omega.{arith}
-use mathlib.Core.Path.{◌≡◌, refl}
+use mathlib.Core.Path.{◌≡◌, refl, sym}
 use mathlib.Core.Logic.{⊎_elim}
-use mathlib.Core.Bool.{true, false}
-use mathlib.Core.List.{List, [], ◌∷◌}
-use lib.Dec.{not_T}
-use lib.ListN.{length, get_or}
+use mathlib.Core.Bool.{Bool, true, false}
+use mathlib.Core.List.{List, [], ◌∷◌, map}
+use lib.Dec.{ltb, not_T}
+use lib.ListN.{length, get_or, length-map}
 use borrow.Author.Tests.{lt-ltb}
+use Rattle.std.specs.List.{IsAllAdjacentAnswer}
+use Rattle.std.proofs.lemmas.List.{get_or-map}
 use Rattle.rules.specs.Lists.{rising_above, rising}
 use Rattle.theorems.proofs.Words.Tests.{T_false, true-T}
 use Rattle.theorems.proofs.Words.Lists.{get_or-In}
@@ -34,29 +36,29 @@ module _ (l : List ℕ) (r : rising l ≡ true) where
   place-below-number zero w = omega arith
   place-below-number (suc k) w = let i = place-below-number k (omega arith) in let m = rises k (suc k) (omega arith) w in omega arith
 
--- The walk that tests neighbours: each number before place i is above the one before it.
-abbrev pub Climbs : List ℕ → ℕ → Type 0
-Climbs l i = (k : ℕ) → k + 1 < i → get_or l k 0 < get_or l (k + 1) 0
+-- The test of each number and the next, of a list of what stands for numbers.
+module _ {A : Type 0} (v : A → ℕ) where
+  climbs : (a : A) (l : List A) → ((k : ℕ) (d : A) → k + 1 < suc (length l) → true ≡ ltb (v (get_or (a ∷ l) k d)) (v (get_or (a ∷ l) (k + 1) d))) → true ≡ rising_above (v a) (map v l)
+  climbs a [] C = refl
+  climbs a (b ∷ l) C = rw (sym (C 0 a (omega arith))) (climbs b l (λ k d h. further k d h))
+    where
+      further : (k : ℕ) (d : A) → k + 1 < suc (length l) → true ≡ ltb (v (get_or (b ∷ l) k d)) (v (get_or (b ∷ l) (k + 1) d))
+      further k d h = let e : suc k + 1 ≡ suc (k + 1) = omega arith in rw e at (C (suc k) d (omega arith))
 
-pub climbs-begin : (l : List ℕ) → Climbs l 1
-climbs-begin l k h = absurd (omega arith)
+  stops : (l : List A) (k : ℕ) → k + 1 < length l → ((d : A) → false ≡ ltb (v (get_or l k d)) (v (get_or l (k + 1) d))) → false ≡ rising (map v l)
+  stops [] k h differs = absurd (omega arith)
+  stops (a ∷ l) k h differs = sym (T_false (rising (map v (a ∷ l))) (not_T (rising (map v (a ∷ l))) (λ t. fails (ordered-rises (map v (a ∷ l)) (rising→ (map v (a ∷ l)) t) k (k + 1) (omega arith) (omega (arith, length-map (a ∷ l) v))))))
+    where
+      fails : get_or (map v (a ∷ l)) k 0 < get_or (map v (a ∷ l)) (k + 1) 0 → ⊥
+      fails lt =
+          let e = get_or-map v (a ∷ l) k a 0 (omega arith) in
+          let f = get_or-map v (a ∷ l) (k + 1) a 0 (omega arith) in
+          let up : v (get_or (a ∷ l) k a) < v (get_or (a ∷ l) (k + 1) a) = omega arith in
+          let t = lt-ltb (v (get_or (a ∷ l) k a)) (v (get_or (a ∷ l) (k + 1) a)) up in
+          let n = differs a in
+          cc
 
-pub climbs-more : (l : List ℕ) (i : ℕ) → Climbs l i → get_or l (i - 1) 0 < get_or l i 0 → Climbs l (i + 1)
-climbs-more l i C h k lt = ⊎_elim (λ e. last e) (λ m. C k m) (eq-or-lt_of_le (omega arith))
-  where
-    last : k + 1 ≡ i → get_or l k 0 < get_or l (k + 1) 0
-    last e = let p : i - 1 ≡ k = omega arith in rw e (rw p at h)
-
-above-climbs : (a : ℕ) (l : List ℕ) → Climbs (a ∷ l) (suc (length l)) → rising_above a l ≡ true
-above-climbs a [] C = refl
-above-climbs a (b ∷ l) C = rw (lt-ltb a b (C 0 (omega arith))) (above-climbs b l (λ k h. further k h))
-  where
-    further : (k : ℕ) → k + 1 < suc (length l) → get_or (b ∷ l) k 0 < get_or (b ∷ l) (k + 1) 0
-    further k h = let e : suc k + 1 ≡ suc (k + 1) = omega arith in rw e at (C (suc k) (omega arith))
-
-pub climbs-all : (l : List ℕ) (i : ℕ) → Climbs l i → length l ≤ i → rising l ≡ true
-climbs-all [] i C h = refl
-climbs-all (a ∷ l) i C h = above-climbs a l (λ k lt. C k (omega arith))
-
-pub climbs-not : (l : List ℕ) (i : ℕ) → 1 ≤ i → i < length l → get_or l i 0 ≤ get_or l (i - 1) 0 → rising l ≡ false
-climbs-not l i z w h = T_false (rising l) (not_T (rising l) (λ t. let m = ordered-rises l (rising→ l t) (i - 1) i (omega arith) w in omega arith))
+  pub rising-answer : (l : List A) (r : Bool) → IsAllAdjacentAnswer (λ x y b. b ≡ ltb (v x) (v y)) l r → r ≡ rising (map v l)
+  rising-answer [] true C = refl
+  rising-answer (a ∷ l) true C = climbs a l C
+  rising-answer l false C = stops l C.0 C.1 C.2

@@ -4,24 +4,24 @@ use Prim.Native.Nat.{ℕ}
 use mathlib.Core.Path.{◌≡◌, refl, sym, ap, ◌∙◌}
 use mathlib.Core.Bool.{cond}
 use mathlib.Core.List.{List}
+use Rattle.std.specs.Prelude.{Ok, Err}
 use lib.Dec.{eqb}
 use Rattle.rules.specs.Renumber.{Renumbered, compact_outcome, crate_outcome}
-use Rattle.renumbering.specs.declared.answer.Renumbering.{Renumbering}
-use Rattle.renumbering.specs.declared.answer.Renumbering.TheVariants.{Done, Ragged, BadKept, ShortOutcome, NotKept}
-use Rattle.renumbering.specs.Outcome.{outcome}
+use Rattle.renumbering.specs.declared.answer.Unnumbered.TheVariants.{Ragged, BadKept, ShortOutcome, NotKept}
+use Rattle.renumbering.specs.Outcome.{Renumbering, outcome}
 use Rattle.renumbering.specs.Bytes.{compact_bytes_outcome}
 
 -- the answer that a number and a place are
 answered : Renumbered → Renumbering
-answered o = cond (eqb o.number 0) Done (cond (eqb o.number 14) Ragged (cond (eqb o.number 24) BadKept (cond (eqb o.number 18) ShortOutcome (NotKept o.place))))
+answered o = cond (eqb o.number 0) (Ok tt) (Err (cond (eqb o.number 14) Ragged (cond (eqb o.number 24) BadKept (cond (eqb o.number 18) ShortOutcome (NotKept o.place)))))
 
 read_off : (r : Renumbering) (out : List ℕ) → answered (outcome r out) ≡ r
 unfolding answered
-read_off Done out = refl
-read_off Ragged out = refl
-read_off BadKept out = refl
-read_off ShortOutcome out = refl
-read_off (NotKept place) out = refl
+read_off (Ok tt) out = refl
+read_off (Err Ragged) out = refl
+read_off (Err BadKept) out = refl
+read_off (Err ShortOutcome) out = refl
+read_off (Err (NotKept place)) out = refl
 
 -- two answers with one outcome are the same, and so are the lists
 pub outcome-one : (r s : Renumbering) (a b : List ℕ) → outcome r a ≡ outcome s b → (r ≡ s) × (a ≡ b)

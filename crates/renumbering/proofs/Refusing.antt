@@ -1,7 +1,7 @@
 -- Which refusal a renumbering call gives, test by test, and what holds where it gives none. Assumes nothing.
 use Prim.Native.Nat.{ℕ, ◌≤◌, ◌<◌}
 use native.Mathlib.Omega.{arith}
-use mathlib.Core.Path.{◌≡◌, refl}
+use mathlib.Core.Path.{◌≡◌, refl, sym}
 use mathlib.Core.Logic.{◌≢◌}
 use mathlib.Core.Bool.{true, false, not, ◌||◌}
 use mathlib.Core.List.{List}
@@ -18,7 +18,7 @@ use Rattle.theorems.proofs.Words.Choices.{or_else-none}
 use Rattle.theorems.proofs.Checks.Accept.{refuse-none}
 use Rattle.words.specs.Bytes.{numbers_of, ragged}
 use Rattle.renumbering.specs.Bytes.{bytes_refusal}
-use Rattle.renumbering.specs.Parts.{place_below, Sound, AllKept}
+use Rattle.renumbering.specs.Parts.{Sound, AllKept}
 use Rattle.renumbering.proofs.Missing.{all-kept}
 
 -- a refusal as the table has it
@@ -55,14 +55,14 @@ module _ (kept : List ℕ) (primaries : ℕ) (items out : List ℕ) where
     unfolding renumber_refusal
     too_short h = rw (passes-24, lt-ltb (length out) (length items) h)
 
-    module _ (room : length items ≤ length out) (k : ℕ) (e : not_kept kept 0 items ≡ place_below k (length items)) where
-      pub missing_at : k < length items → refused_at 25 k ≡ renumber_refusal kept primaries items out
+    module _ (room : length items ≤ length out) where
+      pub missing_at : (k : ℕ) → some k ≡ not_kept kept 0 items → refused_at 25 k ≡ renumber_refusal kept primaries items out
       unfolding renumber_refusal
-      missing_at h = rw (passes-24, le-ltb (length out) (length items) room, e, lt-ltb k (length items) h)
+      missing_at k e = rw (passes-24, le-ltb (length out) (length items) room, sym e)
 
-      pub nothing-wrong : length items ≤ k → none ≡ renumber_refusal kept primaries items out
+      pub nothing-wrong : none ≡ not_kept kept 0 items → none ≡ renumber_refusal kept primaries items out
       unfolding renumber_refusal
-      nothing-wrong h = rw (passes-24, le-ltb (length out) (length items) room, e, le-ltb k (length items) h)
+      nothing-wrong e = rw (passes-24, le-ltb (length out) (length items) room, sym e)
 
   -- what holds where there is no refusal
   pub accepted : renumber_refusal kept primaries items out ≡ none → Sound kept primaries × AllKept kept items × (length items ≤ length out)

@@ -1,12 +1,13 @@
 -- The crate's numbers: primary means a place below the count of primaries, and a secondary is not below sd. Assumes nothing.
 use Prim.Native.Nat.{ℕ, zero, suc, ◌-◌, ◌≤◌, ◌<◌}
 use native.Mathlib.Omega.{arith}
-use mathlib.Core.Path.{◌≡◌, refl, sym}
+use mathlib.Core.Path.{◌≡◌, refl, sym, ap, ◌∙◌}
 use mathlib.Core.Logic.{◌⊎◌, inl, inr}
-use mathlib.Core.Bool.{Bool, not, ◌||◌}
-use mathlib.Core.List.{List, [], ◌∷◌}
+use mathlib.Core.Bool.{Bool, not, ◌||◌, cond}
+use mathlib.Core.List.{List, [], ◌∷◌, map}
 use lib.Dec.{T, ltb, eqb, eqb→eq, ltb→lt, lt→ltb}
-use lib.ListN.{length, get_or, take}
+use lib.ListN.{length, get_or, take, length-map}
+use Rattle.std.proofs.lemmas.List.{map-id}
 use borrow.Author.Tests.{lt-ltb, le-ltb, eq-eqb, ne_eqb}
 use Rattle.rules.specs.Lists.{mem, place}
 use Rattle.rules.specs.Renumber.{sd, crate_item}
@@ -49,18 +50,19 @@ module _ (kept : List ℕ) (primaries : ℕ) (s : Sound kept primaries) where
   unfolding sd
   sd-none h = rw (le-ltb primaries (length kept) h)
 
-  module _ (i : ℕ) (m : T (mem i kept)) where
-    pub primary-number : place kept i < primaries → i ≡ crate_item kept primaries i
-    unfolding crate_item
-    primary-number h = rw (among_first kept primaries i s.within, lt-ltb (place kept i) primaries h)
+  pub secondary-above : (i : ℕ) → T (mem i kept) → primaries ≤ place kept i → sd kept primaries ≤ i
+  secondary-above i m h =
+      let w = place-present kept i m in
+      let first = rises-to kept s.rises primaries (place kept i) h w.0 in
+      let e = sd-some (omega (arith, w.0)) in
+      omega (arith, w.1)
 
-    pub secondary-number : primaries ≤ place kept i → i - sd kept primaries ≡ crate_item kept primaries i
-    unfolding crate_item
-    secondary-number h = rw (among_first kept primaries i s.within, le-ltb (place kept i) primaries h)
-
-    pub secondary-above : primaries ≤ place kept i → sd kept primaries ≤ i
-    secondary-above h =
-        let w = place-present kept i m in
-        let first = rises-to kept s.rises primaries (place kept i) h w.0 in
-        let e = sd-some (omega (arith, w.0)) in
-        omega (arith, w.1)
+-- what the code makes of a place and the item, over what stands for the numbers
+pub crate-number : (kept : List ℕ) (primaries i n d : ℕ) → primaries ≤ length (map (λ m. m) kept) → d ≡ sd kept primaries
+    → n ≡ cond (ltb (place (map (λ m. m) kept) i) primaries) i (i - d) → n ≡ crate_item kept primaries i
+unfolding crate_item
+crate-number kept primaries i n d h e f =
+    f
+    ∙ ap (λ (l : List ℕ). cond (ltb (place l i) primaries) i (i - d)) (map-id kept)
+    ∙ ap (λ (b : Bool). cond b i (i - d)) (sym (among_first kept primaries i (omega (arith, length-map kept (λ (m : ℕ). m)))))
+    ∙ ap (λ (x : ℕ). cond (mem i (take primaries kept)) i (i - x)) e

@@ -1,19 +1,26 @@
 -- What the answer of a renumbering call says: its number and place in the paper's terms. Document 01, "Two renumberings of a result", and for 14
 -- "The desk program calls through C". Assumes nothing.
-use Rattle.std.specs.Prelude.{ℕ, ◌+◌, ◌*◌, ◌%◌, List}
+use Rattle.std.specs.Prelude.{ℕ, ◌+◌, ◌*◌, ◌%◌, List, Result, Ok, Err}
 use Rattle.std.proofs.Math.Option.{Option, none, some}
 use Rattle.rules.specs.Checks.{Refusal}
 use Rattle.rules.specs.Renumber.{Renumbered}
-use Rattle.renumbering.specs.declared.answer.Renumbering.{Renumbering}
-use Rattle.renumbering.specs.declared.answer.Renumbering.TheVariants.{Done, Ragged, BadKept, ShortOutcome, NotKept}
+use Rattle.renumbering.specs.declared.answer.Unnumbered.{Unnumbered}
+use Rattle.renumbering.specs.declared.answer.Unnumbered.TheVariants.{Ragged, BadKept, ShortOutcome, NotKept}
 
--- the refusal that each case of the answer is
+-- the refusal that each reason is
+abbrev pub refused : Unnumbered → Refusal
+refused Ragged = record { number = 14; place = 0 }
+refused BadKept = record { number = 24; place = 0 }
+refused ShortOutcome = record { number = 18; place = 0 }
+refused (NotKept place) = record { number = 25; place = place }
+
+-- a call's answer, and the refusal in it
+abbrev pub Renumbering : Type 0
+Renumbering = Result (Unit {0}) Unnumbered
+
 abbrev pub refusal : Renumbering → Option Refusal
-refusal Done = none
-refusal Ragged = some (record { number = 14; place = 0 })
-refusal BadKept = some (record { number = 24; place = 0 })
-refusal ShortOutcome = some (record { number = 18; place = 0 })
-refusal (NotKept place) = some (record { number = 25; place = place })
+refusal (Ok done) = none
+refusal (Err reason) = some (refused reason)
 
 -- a refusal's number and place; done is number 0, place 0
 abbrev pub refusal_number : Option Refusal → ℕ

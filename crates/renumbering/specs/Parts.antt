@@ -1,19 +1,16 @@
 -- What the functions below the calls ask and answer. Assumes nothing.
-use Rattle.std.specs.Prelude.{ℕ, ◌≤◌, ◌<◌, ◌≡◌, true, cond, List, T, ltb, length, get_or}
+use Rattle.std.specs.Prelude.{ℕ, ◌≤◌, ◌<◌, ◌≡◌, true, cond, List, T, ltb, length, get_or, Option as Optional, Some, None}
 use Rattle.std.proofs.Math.Option.{Option, none, some}
-use Rattle.rules.specs.Lists.{mem, rising}
-use Rattle.rules.specs.Renumber.{compact_item, crate_item}
-use Rattle.renumbering.specs.declared.lists.Way.{Way}
-use Rattle.renumbering.specs.declared.lists.Way.TheVariants.{Compact, Crate}
+use Rattle.rules.specs.Lists.{mem, rising, place}
+
+-- an answer of the code's, as the definitions have it
+abbrev pub as_option : Optional ℕ → Option ℕ
+as_option None = none
+as_option (Some k) = some k
 
 -- a place below n, or none
 abbrev pub place_below : ℕ → ℕ → Option ℕ
 place_below k n = cond (ltb k n) (some k) none
-
--- the number that an item gets
-abbrev pub numbering : Way → List ℕ → ℕ → ℕ → ℕ
-numbering Compact = compact_item
-numbering Crate = crate_item
 
 -- a kept list with its count of primaries that 24 does not refuse
 pub record Sound (kept : List ℕ) (primaries : ℕ) : Type 0 where
@@ -24,3 +21,11 @@ pub record Sound (kept : List ℕ) (primaries : ℕ) : Type 0 where
 -- every item is kept
 abbrev pub AllKept : List ℕ → List ℕ → Type 0
 AllKept kept items = (k : ℕ) → k < length items → T (mem (get_or items k 0) kept)
+
+-- of each kept item, a function may be asked for its number, by its place and itself, ..
+abbrev pub AskedOfEach : List ℕ → (ℕ → ℕ → Type 0) → Type 0
+AskedOfEach kept may = (i : ℕ) → T (mem i kept) → may (place kept i) i
+
+-- .. and answers what f says
+abbrev pub Numbers : List ℕ → (ℕ → ℕ → ℕ → Type 0) → (ℕ → ℕ) → Type 0
+Numbers kept answers f = (i n : ℕ) → T (mem i kept) → answers (place kept i) i n → n ≡ f i

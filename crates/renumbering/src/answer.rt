@@ -1,11 +1,9 @@
-// What a renumbering call answers.
+// Why a renumbering call gives no numbers, and what a call answers, as plain numbers.
 ghost use Rattle.std.specs.Prelude.{◌≡◌};
-ghost use Rattle.renumbering.specs.Outcome.{refusal, refusal_number, refusal_place, packed};
+ghost use Rattle.renumbering.specs.Outcome.{refused, refusal, refusal_number, refusal_place, packed};
 
-#[derive(Clone, Copy)]
-pub enum Renumbering {
-    // 0: the front of the outcome list is filled
-    Done,
+#[derive(Clone, Copy, Debug, PartialEq, Eq)]
+pub enum Unnumbered {
     // 14: a byte list's length isn't a multiple of four; only where lists are lists of bytes
     Ragged,
     // 24: the kept list isn't strictly rising, or the count of primaries is 0 or above its length
@@ -16,38 +14,47 @@ pub enum Renumbering {
     NotKept { place: usize },
 }
 
-impl Renumbering {
-    // The number that document 01 gives the answer.
+impl Unnumbered {
+    // The number that document 01 gives it.
     pub fn number(self) -> u32
-        ensures { result ≡ refusal_number (refusal self) }
+        ensures { result ≡ (refused self).number }
     {
         match self {
-            Renumbering::Done => 0,
-            Renumbering::Ragged => 14,
-            Renumbering::BadKept => 24,
-            Renumbering::ShortOutcome => 18,
-            Renumbering::NotKept { place: _ } => 25,
+            Unnumbered::Ragged => 14,
+            Unnumbered::BadKept => 24,
+            Unnumbered::ShortOutcome => 18,
+            Unnumbered::NotKept { place: _ } => 25,
         }
     }
 
     // The place that goes with it.
     pub fn place(self) -> usize
-        ensures { result ≡ refusal_place (refusal self) }
+        ensures { result ≡ (refused self).place }
     {
         match self {
-            Renumbering::NotKept { place } => place,
-            Renumbering::Done => 0,
-            Renumbering::Ragged => 0,
-            Renumbering::BadKept => 0,
-            Renumbering::ShortOutcome => 0,
+            Unnumbered::NotKept { place } => place,
+            _ => 0,
         }
     }
+}
 
-    // Number and place as one 64-bit number.
-    pub fn packed(self) -> u64
-        ensures { result ≡ packed (refusal_number (refusal self)) (refusal_place (refusal self)) }
-    {
-        let high = (self.place() as u64) % 72057594037927936;
-        (self.number() as u64) + 256 * high
-    }
+// The number of an answer: 0 if done, the front of the outcome list being filled. (Document 01 packs an answer that is done as number 0, place 0.)
+pub fn number(answer: Result<(), Unnumbered>) -> u32
+    ensures { result ≡ refusal_number (refusal answer) }
+{
+    answer.err().map_or(0, Unnumbered::number)
+}
+
+// The place that goes with it, 0 if done, as document 01 packs it.
+pub fn place(answer: Result<(), Unnumbered>) -> usize
+    ensures { result ≡ refusal_place (refusal answer) }
+{
+    answer.err().map_or(0, Unnumbered::place)
+}
+
+// Number and place as one 64-bit number.
+pub fn packed(answer: Result<(), Unnumbered>) -> u64
+    ensures { result ≡ packed (refusal_number (refusal answer)) (refusal_place (refusal answer)) }
+{
+    u64::from(number(answer)) + 256 * (place(answer) as u64 % 72057594037927936)
 }

@@ -1,55 +1,37 @@
 // The kept list: whether it rises, where a number stands in it, and which item is not in it.
-ghost use Rattle.std.specs.Prelude.{◌≡◌, true, length};
-ghost use Rattle.rules.specs.Lists.{rising, place};
+// A list that is known to rise gets no type of its own: 24 is told before anything is known of it, so the type would be made in `check` alone, and
+// taken apart in `write`.
+ghost use Rattle.std.specs.Prelude.{◌≡◌, true, map, length};
+ghost use Rattle.rules.specs.Lists.{mem, rising, place};
 ghost use Rattle.rules.specs.Renumber.{not_kept};
-ghost use Rattle.renumbering.specs.Parts.{place_below};
+ghost use Rattle.renumbering.specs.Parts.{as_option, place_below};
+
+use words::numeral::Numeral;
 
 // Whether each number is above the one before it.
-pub fn is_rising(kept: &[u32]) -> bool
-    ensures { result ≡ rising kept.now }
+pub fn is_rising<N: Numeral>(kept: &[N]) -> bool
+    ensures { result ≡ rising (map N.value kept.now) }
 {
-    let mut i = 1;
-    while i < kept.len() {
-        if kept[i] <= kept[i - 1] {
-            return false;
-        }
-        i += 1;
-    }
-    true
+    kept.is_sorted_by(|a, b| a.number() < b.number())
 }
 
-// The place of i in the kept list, or the list's length if it is not there: a search by halves.
-pub fn find(kept: &[u32], i: u32) -> usize
-    requires { rising kept.now ≡ true }
-    ensures { result ≡ place kept.now i }
+// The place of i in the kept list, if that rises and i is there.
+pub fn find<N: Numeral>(kept: &[N], i: u32) -> Option<usize>
+    ensures { rising (map N.value kept.now) ≡ true → as_option result ≡ place_below (place (map N.value kept.now) i) (length kept.now) }
 {
-    let mut lo = 0;
-    let mut hi = kept.len();
-    while lo < hi {
-        let mid = lo + (hi - lo) / 2;
-        if kept[mid] < i {
-            lo = mid + 1;
-        } else {
-            hi = mid;
-        }
-    }
-    if lo == kept.len() {
-        return lo;
-    }
-    if kept[lo] == i { lo } else { kept.len() }
+    kept.binary_search_by_key(&i, |n| n.number()).ok()
 }
 
-// The place of the first item that is not in the kept list, or the count of items.
-pub fn not_kept(kept: &[u32], items: &[u32]) -> usize
-    requires { rising kept.now ≡ true }
-    ensures { not_kept kept.now 0 items.now ≡ place_below result (length items.now) }
+// Whether i is in the kept list, if that rises.
+fn is_kept<N: Numeral>(kept: &[N], i: u32) -> bool
+    ensures { rising (map N.value kept.now) ≡ true → result ≡ mem i (map N.value kept.now) }
 {
-    let mut k = 0;
-    while k < items.len() {
-        if find(kept, items[k]) == kept.len() {
-            return k;
-        }
-        k += 1;
-    }
-    k
+    find(kept, i).is_some()
+}
+
+// The place of the first item that is not in the kept list, if that rises.
+pub fn not_kept<N: Numeral>(kept: &[N], items: &[N]) -> Option<usize>
+    ensures { rising (map N.value kept.now) ≡ true → as_option result ≡ not_kept (map N.value kept.now) 0 (map N.value items.now) }
+{
+    items.iter().position(|item| !is_kept(kept, item.number()))
 }

@@ -5,6 +5,7 @@
 
 pub mod answer;
 pub mod bytes;
+pub mod checks;
 pub mod kept;
-pub mod kept_bytes;
 pub mod lists;
+pub mod write;

@@ -4,61 +4,31 @@ use lines::parts::front;
 use renumbering::lists::crate_numbers;
 use rules::answer::Answer;
 
-// The place behind a list, if it stands at this place of what is stored; else one that is behind everything.
-fn after(stored: &[u32], at: usize, l: &[u32]) -> usize {
-    let mut j = at;
-    let mut k = 0;
-    while k < l.len() {
-        if stored.len() <= j {
-            return 4294967295;
-        }
-        if stored[j] != l[k] {
-            return 4294967295;
-        }
-        j += 1;
-        k += 1;
-    }
-    j
+// The five lists of a result, to be read: `Results` lends them to be written, and is no `Copy`.
+#[derive(Clone, Copy)]
+pub(crate) struct Lists<'a> {
+    pub kept: &'a [u32],
+    pub ends: &'a [u32],
+    pub numbers: &'a [u32],
+    pub items: &'a [u32],
+    pub colours: &'a [u32],
 }
 
-// The same for the items in the crate's numbers.
-fn after_crate(stored: &[u32], at: usize, kept: &[u32], primaries: u32, items: &[u32]) -> usize {
+// What is stored behind these lists, and the items in the crate's numbers; None, where others are stored.
+fn behind_lists<'a>(stored: &'a [u32], lists: Lists, primaries: u32) -> Option<&'a [u32]> {
+    let rest = stored
+        .strip_prefix(lists.kept)?
+        .strip_prefix(lists.ends)?
+        .strip_prefix(lists.numbers)?
+        .strip_prefix(lists.items)?
+        .strip_prefix(lists.colours)?;
     let mut out = [0u32; 1024];
-    let answer = crate_numbers(kept, primaries, items, &mut out);
-    if answer.number() != 0 {
-        return 4294967295;
-    }
-    after(stored, at, front(&out, items.len()))
+    crate_numbers(lists.kept, primaries, lists.items, &mut out).ok()?;
+    rest.strip_prefix(front(&out, lists.items.len()))
 }
 
-// The lists of a reduced problem, from a place of what is stored on.
-fn is_result(
-    stored: &[u32],
-    at: usize,
-    primaries: u32,
-    kept: &[u32],
-    ends: &[u32],
-    numbers: &[u32],
-    items: &[u32],
-    colours: &[u32],
-) -> bool {
-    let a = after(stored, at, kept);
-    let b = after(stored, a, ends);
-    let c = after(stored, b, numbers);
-    let d = after(stored, c, items);
-    let e = after(stored, d, colours);
-    after_crate(stored, e, kept, primaries, items) == stored.len()
-}
-
-pub(crate) fn agrees(
-    answer: Answer,
-    stored: &[u32],
-    kept: &[u32],
-    ends: &[u32],
-    numbers: &[u32],
-    items: &[u32],
-    colours: &[u32],
-) -> bool {
+// What is stored behind this answer; None, where another is stored.
+fn behind<'a>(stored: &'a [u32], answer: Answer, lists: Lists) -> Option<&'a [u32]> {
     match answer {
         Answer::Reduced {
             primaries,
@@ -68,36 +38,27 @@ pub(crate) fn agrees(
             rounds,
             settled,
         } => {
-            let values = [
-                0,
-                primaries,
-                secondaries,
-                options,
-                entries,
-                rounds,
-                settled as u32,
-            ];
-            let n = primaries as usize + secondaries as usize;
-            let m = options as usize;
-            let e = entries as usize;
-            is_result(
-                stored,
-                after(stored, 0, &values),
-                primaries,
-                front(kept, n),
-                front(ends, m),
-                front(numbers, m),
-                front(items, e),
-                front(colours, e),
-            )
+            let settled = u32::from(settled);
+            let values = [0, primaries, secondaries, options, entries, rounds, settled];
+            let rest = stored.strip_prefix(&values)?;
+            let result = Lists {
+                kept: front(lists.kept, primaries as usize + secondaries as usize),
+                ends: front(lists.ends, options as usize),
+                numbers: front(lists.numbers, options as usize),
+                items: front(lists.items, entries as usize),
+                colours: front(lists.colours, entries as usize),
+            };
+            behind_lists(rest, result, primaries)
         }
         Answer::Infeasible { item, cause, round } => {
-            let values = [1, item.0, cause, round];
-            after(stored, 0, &values) == stored.len()
+            stored.strip_prefix(&[1, item.0, cause.number(), round])
         }
-        Answer::Refused { number, place } => {
-            let values = [number, place];
-            after(stored, 0, &values) == stored.len()
+        Answer::Refused(refusal) => {
+            stored.strip_prefix(&[refusal.check.number(), refusal.place])
         }
     }
+}
+
+pub(crate) fn agrees(stored: &[u32], answer: Answer, lists: Lists) -> bool {
+    behind(stored, answer, lists).is_some_and(|rest| rest.is_empty())
 }

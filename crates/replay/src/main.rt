@@ -9,42 +9,45 @@ mod run;
 mod stored;
 mod tally;
 
-use lines::parts::{front, number_at};
-use lines::text::{between, find, next};
-use lines::{numbers, say};
+use lines::numbers::{list, row};
+use lines::say;
+use lines::text::{each_line, find};
+use stored::Stored;
+use tally::{Heading, Tally};
 
-// The line from a place up to its end: a problem and the stored answer.
-fn line(t: &[u8], at: usize, end: usize, tally: &mut [u32]) {
-    if t.len() <= end {
-        return;
+// Counts a line that differs, and writes it, if it is the first.
+fn differs(line: &[u8], tally: &mut Tally) {
+    if tally.none_differs() {
+        say::text("the first line that differs: ");
+        say::bytes(line);
+        say::line("");
     }
-    let text = between(t, at, end);
-    let mut l = [0u32; 2048];
-    let n = numbers::entries(text, false, &mut l);
-    tally::judge(text, stored::agrees(front(&l, n)), &mut *tally);
-    tally::add(&mut *tally, stored::kind(front(&l, n)));
-    tally::add(&mut *tally, stored::who(front(&l, n)));
+    tally.add(Heading::Differs);
 }
 
-// Line by line: there are no more lines than bytes.
-fn problems(t: &[u8], tally: &mut [u32]) {
-    let mut at = 0;
-    for _ in 0..t.len() {
-        let end = find(t, at, b'\n');
-        line(t, at, end, &mut *tally);
-        at = next(end);
+// A problem and the stored answer.
+fn judge(line: &[u8], tally: &mut Tally) {
+    let mut l = [0u32; 2048];
+    let stored = Stored::new(list(line, &mut l));
+    if !stored.agrees() {
+        differs(line, &mut *tally);
     }
+    if let Some(outcome) = stored.outcome() {
+        tally.add(outcome);
+    }
+    tally.add(stored.by());
 }
 
 // The first line of the input is the count of those that follow.
 fn replay(t: &[u8]) {
-    let mut count = [0u32; 1];
-    let mut tally = [0u32; 9];
-    let end = find(t, 0, b'\n');
-    numbers::entries(between(t, 0, end), false, &mut count);
-    problems(between(t, next(end), t.len()), &mut tally);
-    say::number(b"stored answers: ", number_at(&count, 0));
-    tally::show(&tally);
+    let (first, rest) = match find(t, 0, b'\n') {
+        Some(end) => (&t[..end], &t[end + 1..]),
+        None => (t, &t[..0]),
+    };
+    let [count] = row::<1>(first);
+    let mut tally = Tally::default();
+    each_line(rest, |line| judge(line, &mut tally));
+    say::line(format_args!("stored answers: {count}; {tally}"));
 }
 
 fn main() {

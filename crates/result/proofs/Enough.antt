@@ -11,7 +11,8 @@ use Rattle.theorems.proofs.Answers.EachFacts.{each-lengths}
 use Rattle.theorems.proofs.Answers.KeptSizes.{entries-most}
 use Rattle.result.specs.Writing.{Out, items_in}
 use Rattle.result.specs.Reading.{Holding}
-use Rattle.result.proofs.Lists.{length-ends, length-numbers, length-colours}
+use Rattle.theorems.proofs.Answers.Joining.{length-ends}
+use Rattle.result.proofs.Lists.{length-numbers, length-colours}
 
 -- as many items in the kept options as entries of the state, at most
 pub items-most : (n : ℕ) (s : State) → length (items_in (kept_options n s)) ≤ length (each (λ o. o) s)

@@ -1,16 +1,17 @@
 -- Writing the front of a list, one element after another. Assumes nothing.
-use Prim.Native.Nat.{ℕ, suc, ◌+◌, ◌<◌, ◌≤◌}
+use Prim.Native.Nat.{ℕ, suc, ◌+◌, ◌-◌, ◌<◌, ◌≤◌}
 use native.Mathlib.Omega.{arith}
 use mathlib.Core.Path.{◌≡◌, refl, ◌∙◌, ap, sym, subst}
-use mathlib.Core.List.{List, [], ◌∷◌, ◌++◌, map, map-append}
+use mathlib.Core.List.{List, [], ◌∷◌, ◌++◌, map, map-append, append_assoc, append-nil}
 use lib.ListN.{length, get_or, take, drop, set, length-append, length-drop, length-map}
-use lib.Seq.{take-suc, take-length, length-take-le, drop-length}
+use lib.Seq.{take-suc, length-take-le, take-append_seam, drop-drop, drop-length}
+use Rattle.std.proofs.lemmas.List.{drop_at, take_rest}
 use Rattle.rules.specs.Lists.{written}
 use Rattle.theorems.proofs.Words.Written.{written-length, written_behind}
 use Rattle.result.specs.Filled.{Filled}
 
 module _ {A : Type 0} where
-  -- a list of which the front is made anew, element by element, and at last the whole
+  -- a list of which the front is made anew, element by element
   pub remade : (f : A → A) (l : List A) (i : ℕ) (d : A) → i < length l → set (written (map f (take i l)) l) i (f (get_or l i d)) ≡ written (map f (take (i + 1) l)) l
   remade f l i d h =
       let n : length (map f (take i l)) ≡ i = length-map (take i l) f ∙ length-take-le i l (omega arith) in
@@ -18,14 +19,6 @@ module _ {A : Type 0} where
       ap (λ (k : ℕ). set (written (map f (take i l)) l) k (f (get_or l i d))) (sym n)
       ∙ written_behind (map f (take i l)) (f (get_or l i d) ∷ []) l (omega arith)
       ∙ ap (λ (r : List A). written r l) (sym (map-append f (take i l) (get_or l i d ∷ [])) ∙ ap (map f) (sym (take-suc l i d h)) ∙ ap (λ (k : ℕ). map f (take k l)) e)
-
-  pub remade-all : (f : A → A) (l : List A) (i : ℕ) → i ≡ length l → written (map f (take i l)) l ≡ map f l
-  remade-all f l i e =
-      ap (λ (k : ℕ). written (map f (take k l)) l) e
-      ∙ ap (λ (r : List A). written (map f r) l) (take-length l)
-      ∙ ap (λ (k : ℕ). map f l ++ drop k l) (length-map l f)
-      ∙ ap (λ (r : List A). map f l ++ r) (drop-length l)
-      ∙ mathlib.Core.List.append-nil (map f l)
 
 module _ (old xs list : List ℕ) (at : ℕ) (f : Filled old xs list at) where
   -- where the place is in the list, there is room for one more
@@ -44,6 +37,28 @@ module _ (old xs list : List ℕ) (at : ℕ) (f : Filled old xs list at) where
 
   pub filled-length : length xs ≤ length old → length list ≡ length old
   filled-length h = ap length f.list-is ∙ written-length xs old h
+
+-- the front, and then the front of the rest, as a slice of its own
+pub filled_then : (old : List ℕ) {xs ys list rest : List ℕ} {p q : ℕ} → Filled old xs list p → Filled (take (length list - p) (drop p list)) ys rest q
+    → take p list ++ (rest ++ drop (length list - p) (drop p list)) ≡ written (xs ++ ys) old
+filled_then old {xs} {ys} {list} {rest} {p} {q} f g =
+    ap (λ (l : List ℕ). take p list ++ (rest ++ l)) none
+    ∙ ap (λ (l : List ℕ). take p list ++ l) (append-nil rest ∙ g.list-is ∙ ap (λ (l : List ℕ). ys ++ drop (length ys) l) (take_rest list p ∙ behind) ∙ ap (λ (l : List ℕ). ys ++ l) (drop-drop (length ys) (length xs) old))
+    ∙ ap (λ (l : List ℕ). l ++ (ys ++ drop (length xs + length ys) old)) front
+    ∙ sym (append_assoc xs ys (drop (length xs + length ys) old))
+    ∙ ap (λ (k : ℕ). (xs ++ ys) ++ drop k old) (sym (length-append xs ys))
+  where
+    front : take p list ≡ xs
+    front = ap (λ (k : ℕ). take k list) f.at-is ∙ ap (take (length xs)) f.list-is ∙ take-append_seam xs (drop (length xs) old)
+
+    behind : drop p list ≡ drop (length xs) old
+    behind = ap (λ (k : ℕ). drop k list) f.at-is ∙ ap (drop (length xs)) f.list-is ∙ drop_at xs (drop (length xs) old) (length xs) refl
+
+    none : drop (length list - p) (drop p list) ≡ []
+    none =
+        let a = length-append xs (drop (length xs) old) in
+        let e : p + (length list - p) ≡ length list = omega (arith, a, ap length f.list-is, f.at-is) in
+        drop-drop (length list - p) p list ∙ ap (λ (k : ℕ). drop k list) e ∙ drop-length list
 
 -- the same elements, said otherwise
 pub filled-same : (old : List ℕ) {xs ys : List ℕ} (list : List ℕ) (at : ℕ) → xs ≡ ys → Filled old xs list at → Filled old ys list at

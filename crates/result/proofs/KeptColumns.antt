@@ -5,7 +5,7 @@ use mathlib.Core.Path.{◌≡◌, ◌∙◌, ap, sym}
 use mathlib.Core.Bool.{not}
 use mathlib.Core.List.{List, ◌++◌, Memᴰ as In}
 use lib.Dec.{T, ltb, lt→ltb}
-use lib.ListN.{length}
+use lib.ListN.{length, take, drop, length-append}
 use lib.IntN.{ℤ}
 use Rattle.rules.specs.Lists.{keep, from, up_to, written}
 use Rattle.rules.specs.Result.{kept_items, primaries_of, secondaries_of}
@@ -20,6 +20,7 @@ use Rattle.showing.proofs.Results.{kept-items}
 use Rattle.result.specs.Filled.{Filled}
 use Rattle.result.specs.Kept.{kept_from}
 use Rattle.result.specs.Reading.{Standing}
+use Rattle.result.proofs.Filling.{filled_then}
 
 module _ (g : Ground) (n : ℕ) (heads : List ℤ) (s : Standing g n heads) where
   pub columns-kept : kept_from heads 0 n ≡ kept_items n (shown g.plan g.on)
@@ -50,10 +51,15 @@ module _ (g : Ground) (n : ℕ) (heads : List ℤ) (s : Standing g n heads) wher
         omega arith)
 
     -- what the two walks over the columns come to
-    pub kept_result : (old kept : List ℕ) (p all : ℕ) → p ≡ length (kept_from heads 0 np) → Filled old (kept_from heads 0 np ++ kept_from heads np n) kept all
-        → (kept ≡ written (kept_items n (shown g.plan g.on)) old)
-        × (p ≡ primaries_of np (kept_items n (shown g.plan g.on))) × (all - p ≡ secondaries_of np (kept_items n (shown g.plan g.on)))
-    kept_result old kept p all e f =
+    pub kept_result : (old list rest : List ℕ) (p s : ℕ) → Filled old (kept_from heads 0 np) list p
+        → Filled (take (length list - p) (drop p list)) (kept_from heads np n) rest s
+        → (take p list ++ (rest ++ drop (length list - p) (drop p list)) ≡ written (kept_items n (shown g.plan g.on)) old)
+        × (p ≡ primaries_of np (kept_items n (shown g.plan g.on))) × (s ≡ secondaries_of np (kept_items n (shown g.plan g.on)))
+    kept_result old list rest p s a b =
         let split = count-split (λ c. ltb c np) (kept_items n (shown g.plan g.on)) in
         let whole = ap length parts in
-        (f.list-is ∙ ap (λ (xs : List ℕ). written xs old) parts, e ∙ sym primaries, omega (arith, f.at-is, e, primaries, split, whole))
+        let both = length-append (kept_from heads 0 np) (kept_from heads np n) in (
+          filled_then old a b ∙ ap (λ (xs : List ℕ). written xs old) parts,
+          a.at-is ∙ sym primaries,
+          omega (arith, a.at-is, b.at-is, primaries, split, whole, both),
+        )

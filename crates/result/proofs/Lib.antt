@@ -4,6 +4,7 @@ pub mod Keeping
 pub mod KeptColumns
 pub mod Lists
 pub mod Enough
+pub mod SameWriter
 pub mod OneOption
 pub mod OneColumn
 pub mod LeftOptions

@@ -1,7 +1,7 @@
 -- Options one behind another, and one more: their ends, numbers, items and colours. And room for some of them. Assumes nothing.
 use Prim.Native.Nat.{ℕ, ◌+◌}
 use native.Mathlib.Omega.{arith}
-use mathlib.Core.Path.{◌≡◌, refl, ◌∙◌, ap, sym}
+use mathlib.Core.Path.{◌≡◌, ◌∙◌, ap, sym}
 use mathlib.Core.List.{List, [], ◌∷◌, ◌++◌, map-append, append-nil}
 use lib.ListN.{length, length-append, length-map}
 use Rattle.rules.specs.Problem.{Entry}
@@ -37,11 +37,7 @@ ends-from a (y ∷ xs) x =
 pub ends-one : (xs : List Numbered) (x : Numbered) → ends_from 0 (xs ++ (x ∷ [])) ≡ ends_from 0 xs ++ (length (items_in (xs ++ (x ∷ []))) ∷ [])
 ends-one xs x = let e : 0 + length (items_in (xs ++ (x ∷ []))) ≡ length (items_in (xs ++ (x ∷ []))) = omega arith in ends-from 0 xs x ∙ ap (λ (k : ℕ). ends_from 0 xs ++ (k ∷ [])) e
 
--- as many ends, and numbers, as options; as many colours as items
-pub length-ends : (a : ℕ) (xs : List Numbered) → length (ends_from a xs) ≡ length xs
-length-ends a [] = refl
-length-ends a (x ∷ xs) = let e = length-ends (a + length x.entries) xs in omega arith
-
+-- as many numbers as options, and as many colours as items
 pub length-numbers : (xs : List Numbered) → length (numbers_of xs) ≡ length xs
 length-numbers xs = length-map xs (λ (x : Numbered). x.number)
 

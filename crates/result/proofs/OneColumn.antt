@@ -8,6 +8,7 @@ use mathlib.Core.List.{List, [], ◌∷◌, ◌++◌, map, map-append, append-ni
 use borrow.Author.Tests.{eq-eqb, ne_eqb}
 use lib.ListN.{length}
 use lib.IntN.{ℤ}
+use Rattle.std.specs.Option.{is_some}
 use Rattle.rules.specs.Lists.{keep}
 use Rattle.rules.specs.Result.{Numbered}
 use Rattle.theorems.proofs.Words.Tests.{false-T}
@@ -18,7 +19,10 @@ use Rattle.links.specs.Plan.{start, EntryOf, Header}
 use Rattle.links.specs.Ground.{Ground, Tidy}
 use Rattle.links.specs.Row.{span, first_live}
 use Rattle.links.specs.Shown.{Ready}
+use Rattle.links.specs.declared.nodes.Nodes.{Nodes}
+use Rattle.links.specs.Nodes.{item_in}
 use Rattle.links.specs.Lead.{Led, Leads}
+use Rattle.links.proofs.Endings.{no-item, some-item}
 use Rattle.links.proofs.Plans.{header-before}
 use Rattle.links.proofs.Spans.{In-span, keep_join}
 use Rattle.links.proofs.Descending.{Stand, on-entry, reach, reach-past, reach-at, left, stand-header, stand-in, stand-column, stand-next, step-gap, step-far, step_less}
@@ -77,41 +81,38 @@ module _ (g : Ground) (t : Tidy g) (c : ℕ) (hd : Header g.plan c) where
         ∙ map-append (option_from g) (keep (lead_at g c) (span (start g.plan) (x + 1))) (keep (lead_at g c) (span (x + 1) g.plan.N))
 
 -- The same, of lists that are the ground's.
-module _ {g : Ground} {old lists : Out} {xs : List Numbered} {n : ℕ} {heads : List ℤ} {down tints : List ℕ} {c option entry : ℕ} (a : ColumnAt g old lists xs n heads down tints c option entry) where
+module _ {g : Ground} {old lists : Out} {xs : List Numbered} {nodes : Nodes} {tints : List ℕ} {c option entry : ℕ} (a : ColumnAt g old lists xs nodes tints c option entry) where
   ready : Ready g
-  ready = a.nodes.standing.ready
+  ready = a.laid.standing.ready
 
-  below : (x : ℕ) → at down x ≡ at g.down x
-  below x = ap (λ (l : List ℕ). at l x) a.nodes.down-are
+  below : (x : ℕ) → at nodes.down.now x ≡ at g.down x
+  below x = ap (λ (l : List ℕ). at l x) a.laid.down-are
+
+  starts : nodes.start ≡ start g.plan
+  starts = omega (arith, nodes.begins, a.laid.standing.items-are)
 
   top : Stand g c c
   top = stand-header g ready.tidy c a.column (ready.whole.headers c a.column)
 
-  downs : g.plan.N ≤ length down
-  downs = rw a.nodes.down-are ready.tidy.ring.downs
+  downs : g.plan.N ≤ length nodes.down.now
+  downs = rw a.laid.down-are ready.tidy.ring.downs
 
-  pub column-small : n + 2 < 1048576
-  column-small = omega (arith, a.nodes.standing.items-are, ready.tidy.planned.room, ready.tidy.planned.small)
-
-  pub column-in : c < length down
-  column-in = omega (arith, downs, header-before g.plan ready.tidy.planned c a.column, ready.tidy.planned.room)
-
-  pub column-begins : Place g old lists xs c option entry (at down c)
+  pub column-begins : Place g old lists xs c option entry (at nodes.down.now c)
   column-begins = subst (λ (r : ℕ). Place g old lists xs c option entry r) (sym (below c)) (record {
     stand = stand-next g ready.tidy c a.column c top;
     written = written_same old lists option entry (sym (ap (λ (l : List Numbered). xs ++ l) (column-none g ready.tidy c a.column top) ∙ append-nil xs)) a.written;
   })
 
   module _ {lists' : Out} {o e r : ℕ} (b : Place g old lists' xs c o e r) where
-    pub place_in : r < length down
+    pub place_in : r < length nodes.down.now
     place_in = omega (arith, downs, stand-in g ready.tidy c a.column r b.stand)
 
-    pub column-done : r < n + 2 → Written old lists' (xs ++ column_options g c) o e
-    column-done h = written_same old lists' o e (ap (λ (k : ℕ). xs ++ column_to g c k) (reach-past g.plan r (omega (arith, h, a.nodes.standing.items-are)))) b.written
+    pub column-done : r < nodes.start → Written old lists' (xs ++ column_options g c) o e
+    column-done h = written_same old lists' o e (ap (λ (k : ℕ). xs ++ column_to g c k) (reach-past g.plan r (omega (arith, h, starts)))) b.written
 
-    module _ (h : n + 2 ≤ r) where
+    module _ (h : nodes.start ≤ r) where
       behind : start g.plan ≤ r
-      behind = omega (arith, h, a.nodes.standing.items-are)
+      behind = omega (arith, h, starts)
 
       entry_at : EntryOf g.plan r
       entry_at = on-entry g ready.tidy r b.stand.on behind
@@ -119,49 +120,49 @@ module _ {g : Ground} {old lists : Out} {xs : List Numbered} {n : ℕ} {heads : 
       here : reach g.plan r ≡ r
       here = reach-at g.plan r behind
 
-      pub place-led : Led g r heads down
-      place-led = record { tidy = ready.tidy; entry = entry_at; heads-are = a.nodes.standing.heads-are; down-are = a.nodes.down-are }
+      pub place-led : Led g r nodes.heads.now nodes.down.now
+      place-led = record { tidy = ready.tidy; entry = entry_at; heads-are = a.laid.standing.heads-are; down-are = a.laid.down-are }
 
-      pub place-less : (m : ℕ) → m ≡ length heads → left m (n + 2) (at down r) < left m (n + 2) r
+      pub place-less : (m : ℕ) → m ≡ length nodes.heads.now → left m nodes.start (at nodes.down.now r) < left m nodes.start r
       place-less m q =
-          rw (below r, a.nodes.standing.items-are)
-          (step_less g ready.tidy c a.column r b.stand m (omega (arith, q, ap length a.nodes.standing.heads-are, ready.tidy.heads-in)) behind)
+          rw (below r, starts)
+          (step_less g ready.tidy c a.column r b.stand m (omega (arith, q, ap length a.laid.standing.heads-are, ready.tidy.heads-in)) behind)
 
       module _ {z : ℕ} (f : Leads g r z) where
-        pub lead-in : z < length heads
-        lead-in = omega (arith, f.inside, ap length a.nodes.standing.heads-are, ready.tidy.heads-in)
+        pub lead-in : z < length nodes.heads.now
+        lead-in = omega (arith, f.inside, ap length a.laid.standing.heads-are, ready.tidy.heads-in)
 
         -- the node that leads has no item where r is the first live entry
-        is-first : item_of (head heads z) ≡ 0 → first_live g r ≡ true
-        is-first i = sym f.first ∙ eq-eqb (item_of (head g.heads z)) 0 (ap (λ (l : List ℤ). item_of (head l z)) (sym a.nodes.standing.heads-are) ∙ i)
+        is-first : item_of (head nodes.heads.now z) ≡ 0 → first_live g r ≡ true
+        is-first i = sym f.first ∙ eq-eqb (item_of (head g.heads z)) 0 (ap (λ (l : List ℤ). item_of (head l z)) (sym a.laid.standing.heads-are) ∙ i)
 
-        not_first : item_of (head heads z) ≢ 0 → first_live g r ≡ false
-        not_first i = sym f.first ∙ ne_eqb (item_of (head g.heads z)) 0 (λ q. i (ap (λ (l : List ℤ). item_of (head l z)) a.nodes.standing.heads-are ∙ q))
+        not_first : item_of (head nodes.heads.now z) ≢ 0 → first_live g r ≡ false
+        not_first i = sym f.first ∙ ne_eqb (item_of (head g.heads z)) 0 (λ q. i (ap (λ (l : List ℤ). item_of (head l z)) a.laid.standing.heads-are ∙ q))
 
         -- it is not: on to the next
-        pub place-over : item_of (head heads z) ≢ 0 → Place g old lists' xs c o e (at down r)
+        pub place-over : is_some (item_in (head nodes.heads.now z)) ≡ true → Place g old lists' xs c o e (at nodes.down.now r)
         place-over i = subst (λ (k : ℕ). Place g old lists' xs c o e k) (sym (below r)) (record {
           stand = stand-next g ready.tidy c a.column r b.stand;
           written =
               written_same old lists' o e
               (ap (λ (k : ℕ). xs ++ column_to g c k) here
-              ∙ ap (λ (l : List Numbered). xs ++ l) (sym (column-over g ready.tidy c a.column r b.stand behind (not_first i)) ∙ sym (column-next g ready.tidy c a.column r b.stand behind)))
+              ∙ ap (λ (l : List Numbered). xs ++ l) (sym (column-over g ready.tidy c a.column r b.stand behind (not_first (some-item (head nodes.heads.now z) i))) ∙ sym (column-next g ready.tidy c a.column r b.stand behind)))
               b.written;
         })
 
         -- it is: its option is written
-        module _ (i : item_of (head heads z) ≡ 0) where
+        module _ (i : is_some (item_in (head nodes.heads.now z)) ≡ false) where
           one_more : (xs ++ column_to g c (reach g.plan r)) ++ (option_from g r ∷ []) ≡ xs ++ column_to g c (r + 1)
           one_more =
               ap (λ (k : ℕ). (xs ++ column_to g c k) ++ (option_from g r ∷ [])) here
               ∙ append_assoc xs (column_to g c r) (option_from g r ∷ [])
-              ∙ ap (λ (l : List Numbered). xs ++ l) (sym (column-one g ready.tidy c a.column r b.stand behind (is-first i)))
+              ∙ ap (λ (l : List Numbered). xs ++ l) (sym (column-one g ready.tidy c a.column r b.stand behind (is-first (no-item (head nodes.heads.now z) i))))
 
-          pub place-option : OptionAt g old lists' (xs ++ column_to g c (reach g.plan r)) heads tints r o e
+          pub place-option : OptionAt g old lists' (xs ++ column_to g c (reach g.plan r)) nodes.heads.now tints r o e
           place-option = record {
             tidy = ready.tidy;
-            tinted = a.nodes.tinted;
-            heads-are = a.nodes.standing.heads-are;
+            tinted = a.laid.tinted;
+            heads-are = a.laid.standing.heads-are;
             node = entry_at;
             room =
                 room-front old ((xs ++ column_to g c (reach g.plan r)) ++ (option_from g r ∷ [])) (rest g ready.tidy c a.column r b.stand behind)
@@ -173,7 +174,7 @@ module _ {g : Ground} {old lists : Out} {xs : List Numbered} {n : ℕ} {heads : 
             written = b.written;
           }
 
-          pub place-one : (lists'' : Out) (o' e' : ℕ) → Written old lists'' ((xs ++ column_to g c (reach g.plan r)) ++ (option_from g r ∷ [])) o' e' → Place g old lists'' xs c o' e' (at down r)
+          pub place-one : (lists'' : Out) (o' e' : ℕ) → Written old lists'' ((xs ++ column_to g c (reach g.plan r)) ++ (option_from g r ∷ [])) o' e' → Place g old lists'' xs c o' e' (at nodes.down.now r)
           place-one lists'' o' e' w = subst (λ (k : ℕ). Place g old lists'' xs c o' e' k) (sym (below r)) (record {
             stand = stand-next g ready.tidy c a.column r b.stand;
             written = written_same old lists'' o' e' (one_more ∙ ap (λ (l : List Numbered). xs ++ l) (sym (column-next g ready.tidy c a.column r b.stand behind))) w;

@@ -4,10 +4,11 @@ use native.Mathlib.Omega.{arith}
 use mathlib.Core.Path.{◌≡◌, ◌∙◌, ap, sym}
 use mathlib.Core.Logic.{⊎_elim, ◌≢◌}
 use mathlib.Core.Bool.{true, false, true≢false}
-use mathlib.Core.List.{List, [], ◌∷◌, ◌++◌, map, map-append, append-nil, append_assoc}
+use mathlib.Core.List.{List, [], ◌∷◌, ◌++◌, map, map-append, append_assoc}
 use borrow.Author.Tests.{lt-ltb, le-ltb}
 use lib.ListN.{length, set, length-append, length-map}
 use lib.IntN.{ℤ, pos}
+use Rattle.std.proofs.Common.{Some, None}
 use Rattle.rules.specs.Lists.{keep}
 use Rattle.rules.specs.Problem.{Entry}
 use Rattle.rules.specs.State.{items_of}
@@ -18,16 +19,18 @@ use Rattle.links.specs.Plan.{hi, EntryOf, Planned}
 use Rattle.links.specs.Ground.{Ground, Short, Edge}
 use Rattle.links.specs.Row.{span, full}
 use Rattle.links.specs.Shown.{entry_at}
+use Rattle.links.specs.Nodes.{item_in, option_in}
 use Rattle.links.proofs.Stores.{same?}
+use Rattle.links.proofs.Endings.{option_none, option_some, item_none, item_some}
 use Rattle.links.proofs.Plans.{entry_row, row-till, row-mate, header-before}
-use Rattle.links.proofs.Spans.{span_none}
 use Rattle.result.specs.Filled.{Filled}
 use Rattle.result.specs.Left.{entries_to, option_from}
 use Rattle.result.specs.Writing.{Out, out, items_in, colours_in, Written}
 use Rattle.result.specs.Reading.{OptionAt}
 use Rattle.result.proofs.Filling.{filled_more, filled-length, filled-same}
 use Rattle.result.proofs.Spanning.{keep-end, keep-over, keep-rises}
-use Rattle.result.proofs.Lists.{items-one, colours-one, numbers-one, ends-one, length-ends, length-numbers}
+use Rattle.theorems.proofs.Answers.Joining.{length-ends}
+use Rattle.result.proofs.Lists.{items-one, colours-one, numbers-one, ends-one, length-numbers}
 
 -- The walk from r is at q: the live entries before q are written behind the options xs.
 pub record Reading (g : Ground) (old : Out) (xs : List Numbered) (r : ℕ) (items colours : List ℕ) (entry q : ℕ) : Type 0 where
@@ -45,17 +48,6 @@ module _ {g : Ground} {old lists : Out} {xs : List Numbered} {heads : List ℤ} 
 
   edge : Edge g (g.plan.number r)
   edge = d.tidy.edge (g.plan.number r) d.node.option (entry_row g.plan W r d.node)
-
-  pub reading_begins : Reading g old xs r lists.items lists.colours entry r
-  reading_begins = record {
-    from = omega arith;
-    till = omega (arith, d.node.till);
-    items-in = filled-same old.items lists.items entry (sym (ap (λ (l : List ℕ). items_in xs ++ items_of (map (entry_at g.plan) (keep (full g.heads) l))) none ∙ append-nil (items_in xs))) d.written.items;
-    colours-in = filled-same old.colours lists.colours entry (sym (ap (λ (l : List ℕ). colours_in xs ++ colours_of (map (entry_at g.plan) (keep (full g.heads) l))) none ∙ append-nil (colours_in xs))) d.written.colours;
-  }
-    where
-      none : span r r ≡ []
-      none = span_none r r (omega arith)
 
   module _ {items colours : List ℕ} {e q : ℕ} (b : Reading g old xs r items colours e q) where
     -- the place is within the nodes
@@ -80,7 +72,10 @@ module _ {g : Ground} {old lists : Out} {xs : List Numbered} {heads : List ℤ} 
             let m = row-mate g.plan W r q d.node (omega (arith, b.from, d.node.from)) (omega (arith, b.till, n)) in
             ⊎_elim (λ f. above (f ∙ ap pos (ap item_of (sym f)))) (λ (s : Short g q). above (s.none ∙ ap pos (ap item_of (sym s.none)))) (d.tidy.rows q m)
 
-    module _ (z : below_zero (head heads q) ≡ false) where
+    module _ (o : None ≡ option_in (head heads q)) where
+      z : below_zero (head heads q) ≡ false
+      z = option_none (head heads q) o
+
       reading-inner : q < hi g.plan r
       reading-inner = omega (arith, b.till, n)
         where
@@ -88,7 +83,7 @@ module _ {g : Ground} {old lists : Out} {xs : List Numbered} {heads : List ℤ} 
           n s = true≢false (sym (ap below_zero (ap (head g.heads) s ∙ edge.number)) ∙ sym (ap (λ (l : List ℤ). below_zero (head l q)) d.heads-are) ∙ z)
 
       -- a shortened entry
-      pub reading-over : item_of (head heads q) ≡ 0 → Reading g old xs r items colours e (q + 1)
+      pub reading-over : None ≡ item_in (head heads q) → Reading g old xs r items colours e (q + 1)
       reading-over i = record {
         from = omega (arith, b.from);
         till = omega (arith, reading-inner);
@@ -97,9 +92,15 @@ module _ {g : Ground} {old lists : Out} {xs : List Numbered} {heads : List ℤ} 
       }
         where
           same : keep (full g.heads) (span r (q + 1)) ≡ keep (full g.heads) (span r q)
-          same = keep-over (full g.heads) r q b.from (le-ltb 0 (item_of (head g.heads q)) (omega (arith, ap (λ (l : List ℤ). item_of (head l q)) (sym d.heads-are), i)))
+          same = keep-over (full g.heads) r q b.from (le-ltb 0 (item_of (head g.heads q)) (omega (arith, ap (λ (l : List ℤ). item_of (head l q)) (sym d.heads-are), item_none (head heads q) i)))
 
-      module _ (i : item_of (head heads q) ≢ 0) where
+      module _ (k : ℕ) (s : Some k ≡ item_in (head heads q)) where
+        item-is : item_of (head heads q) ≡ k
+        item-is = (item_some (head heads q) k s).0
+
+        i : item_of (head heads q) ≢ 0
+        i e = omega (arith, e, (item_some (head heads q) k s).1)
+
         some : full g.heads q ≡ true
         some = lt-ltb 0 (item_of (head g.heads q)) (omega (arith, ap (λ (l : List ℤ). item_of (head l q)) (sym d.heads-are), i))
 
@@ -107,9 +108,10 @@ module _ {g : Ground} {old lists : Out} {xs : List Numbered} {heads : List ℤ} 
         node = row-mate g.plan W r q d.node (omega (arith, b.from, d.node.from)) reading-inner
 
         -- a full entry's head is its column
-        column : item_of (head heads q) ≡ g.plan.col q
+        column : k ≡ g.plan.col q
         column =
-            ap (λ (l : List ℤ). item_of (head l q)) d.heads-are
+            sym item-is
+            ∙ ap (λ (l : List ℤ). item_of (head l q)) d.heads-are
             ∙ ⊎_elim (λ f. ap item_of f) (λ (s : Short g q). absurd (i (ap (λ (l : List ℤ). item_of (head l q)) d.heads-are ∙ ap item_of s.none))) (d.tidy.rows q node)
 
         -- there is room for it, and its number fits
@@ -138,21 +140,18 @@ module _ {g : Ground} {old lists : Out} {xs : List Numbered} {heads : List ℤ} 
             let l = filled-length old.colours (colours_in xs ++ colours_of (entries_to g r q)) colours e b.colours-in (omega (arith, more, d.room.colours, b.items-in.at-is, b.colours-in.at-is)) in
             omega (arith, more, d.room.colours, b.items-in.at-is, l)
 
-        pub reading-some : 1 ≤ item_of (head heads q)
-        reading-some = omega (arith, i)
-
-        pub reading_small : item_of (head heads q) - 1 < 1048576
+        pub reading_small : k - 1 < 1048576
         reading_small = omega (arith, column, header-before g.plan W (g.plan.col q) (W.entry q node), W.room, W.small)
 
-        pub reading-one : Reading g old xs r (set items e (item_of (head heads q) - 1)) (set colours e (at tints q)) (e + 1) (q + 1)
+        pub reading-one : Reading g old xs r (set items e (k - 1)) (set colours e (at tints q)) (e + 1) (q + 1)
         reading-one = record {
           from = omega (arith, b.from);
           till = omega (arith, reading-inner);
           items-in =
-              filled-same old.items (set items e (item_of (head heads q) - 1)) (e + 1)
-              (append_assoc (items_in xs) (items_of (entries_to g r q)) ((item_of (head heads q) - 1) ∷ [])
-              ∙ ap (λ (l : List ℕ). items_in xs ++ l) (ap (λ (k : ℕ). items_of (entries_to g r q) ++ ((k - 1) ∷ [])) column ∙ sym (map-append (λ (e : Entry). e.item) (entries_to g r q) (entry_at g.plan q ∷ [])) ∙ ap items_of (sym longer)))
-              (filled_more old.items (items_in xs ++ items_of (entries_to g r q)) items e b.items-in (item_of (head heads q) - 1) reading-items);
+              filled-same old.items (set items e (k - 1)) (e + 1)
+              (append_assoc (items_in xs) (items_of (entries_to g r q)) ((k - 1) ∷ [])
+              ∙ ap (λ (l : List ℕ). items_in xs ++ l) (ap (λ (c : ℕ). items_of (entries_to g r q) ++ ((c - 1) ∷ [])) column ∙ sym (map-append (λ (e : Entry). e.item) (entries_to g r q) (entry_at g.plan q ∷ [])) ∙ ap items_of (sym longer)))
+              (filled_more old.items (items_in xs ++ items_of (entries_to g r q)) items e b.items-in (k - 1) reading-items);
           colours-in =
               filled-same old.colours (set colours e (at tints q)) (e + 1)
               (append_assoc (colours_in xs) (colours_of (entries_to g r q)) (at tints q ∷ [])
@@ -164,12 +163,15 @@ module _ {g : Ground} {old lists : Out} {xs : List Numbered} {heads : List ℤ} 
             longer = ap (map (entry_at g.plan)) (keep-end (full g.heads) r q b.from some) ∙ map-append (entry_at g.plan) (keep (full g.heads) (span r q)) (q ∷ [])
 
     -- at the boundary
-    module _ (z : below_zero (head heads q) ≡ true) where
+    module _ (k : ℕ) (s : Some k ≡ option_in (head heads q)) where
+      here : q ≡ hi g.plan r
+      here = reading-end (option_some (head heads q) k s).0
+
       count-is : e ≡ length (items_in all)
       unfolding option_from all
       count-is =
           b.items-in.at-is
-          ∙ ap (λ (k : ℕ). length (items_in xs ++ items_of (entries_to g r k))) (reading-end z)
+          ∙ ap (λ (k : ℕ). length (items_in xs ++ items_of (entries_to g r k))) here
           ∙ ap length (sym (items-one xs (option_from g r)))
 
       pub reading-fits : e < 4294967296
@@ -192,19 +194,19 @@ module _ {g : Ground} {old lists : Out} {xs : List Numbered} {heads : List ℤ} 
           let l = filled-length old.numbers (numbers_of xs) lists.numbers option d.written.numbers (omega (arith, d.room.numbers, a, n)) in
           omega (arith, d.room.numbers, d.written.numbers.at-is, a, n, l)
 
-      pub reading-done : Written old (out (set lists.ends option e) (set lists.numbers option (option_of (head heads q))) items colours) (xs ++ (option_from g r ∷ [])) (option + 1) e
+      pub reading-done : Written old (out (set lists.ends option e) (set lists.numbers option k) items colours) (xs ++ (option_from g r ∷ [])) (option + 1) e
       unfolding option_from all
       reading-done = record {
         ends =
             filled-same old.ends (set lists.ends option e) (option + 1) (ap (λ (k : ℕ). ends_from 0 xs ++ (k ∷ [])) count-is ∙ sym (ends-one xs (option_from g r)))
             (filled_more old.ends (ends_from 0 xs) lists.ends option d.written.ends e reading-ends);
         numbers =
-            filled-same old.numbers (set lists.numbers option (option_of (head heads q))) (option + 1)
+            filled-same old.numbers (set lists.numbers option k) (option + 1)
             (ap (λ (k : ℕ). numbers_of xs ++ (k ∷ [])) number_is ∙ sym (numbers-one xs (option_from g r)))
-            (filled_more old.numbers (numbers_of xs) lists.numbers option d.written.numbers (option_of (head heads q)) reading-numbers);
-        items = filled-same old.items items e (ap (λ (k : ℕ). items_in xs ++ items_of (entries_to g r k)) (reading-end z) ∙ sym (items-one xs (option_from g r))) b.items-in;
-        colours = filled-same old.colours colours e (ap (λ (k : ℕ). colours_in xs ++ colours_of (entries_to g r k)) (reading-end z) ∙ sym (colours-one xs (option_from g r))) b.colours-in;
+            (filled_more old.numbers (numbers_of xs) lists.numbers option d.written.numbers k reading-numbers);
+        items = filled-same old.items items e (ap (λ (k : ℕ). items_in xs ++ items_of (entries_to g r k)) here ∙ sym (items-one xs (option_from g r))) b.items-in;
+        colours = filled-same old.colours colours e (ap (λ (k : ℕ). colours_in xs ++ colours_of (entries_to g r k)) here ∙ sym (colours-one xs (option_from g r))) b.colours-in;
       }
         where
-          number_is : option_of (head heads q) ≡ g.plan.number r
-          number_is = ap (λ (l : List ℤ). option_of (head l q)) d.heads-are ∙ ap (λ (k : ℕ). option_of (head g.heads k)) (reading-end z) ∙ ap option_of edge.number
+          number_is : k ≡ g.plan.number r
+          number_is = sym (option_some (head heads q) k s).1 ∙ ap (λ (l : List ℤ). option_of (head l q)) d.heads-are ∙ ap (λ (k : ℕ). option_of (head g.heads k)) here ∙ ap option_of edge.number

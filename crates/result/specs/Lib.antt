@@ -2,4 +2,5 @@ pub mod Filled
 pub mod Kept
 pub mod Left
 pub mod Writing
+pub mod Writer
 pub mod Reading

@@ -1,23 +1,25 @@
 -- What is asked where the result is read off the nodes: the kept items; one option, one column, all columns. Assumes nothing.
-use Rattle.std.specs.Prelude.{ℕ, ◌≤◌, ◌≡◌, List, [], ◌∷◌, ◌++◌, length, ℤ}
+use Rattle.std.specs.Prelude.{ℕ, ◌+◌, ◌≤◌, ◌≡◌, List, [], ◌∷◌, ◌++◌, length, ℤ}
 use Rattle.rules.specs.Lists.{written}
 use Rattle.rules.specs.Checks.{Results}
 use Rattle.rules.specs.Result.{Numbered}
 use Rattle.links.specs.Plan.{EntryOf, Header}
 use Rattle.links.specs.Ground.{Ground, Tidy}
 use Rattle.links.specs.Shown.{Tinted, Ready}
+use Rattle.links.specs.declared.nodes.Nodes.{Nodes}
 use Rattle.result.specs.Left.{option_from, column_options}
 use Rattle.result.specs.Writing.{Out, Written, Suffices}
 
--- The heads are those of a ground between an item's step and the next, with n items; and so are the ways down and the colours.
+-- The heads are those of a ground between an item's step and the next, with n items.
 pub record Standing (g : Ground) (n : ℕ) (heads : List ℤ) : Type 0 where
   pub ready : Ready g
   pub items-are : n ≡ g.plan.n
   pub heads-are : heads ≡ g.heads
 
-pub record Nodes (g : Ground) (n : ℕ) (heads : List ℤ) (down tints : List ℕ) : Type 0 where
-  pub standing : Standing g n heads
-  pub down-are : down ≡ g.down
+-- And so are the ways down and the colours.
+pub record Laid (g : Ground) (nodes : Nodes) (tints : List ℕ) : Type 0 where
+  pub standing : Standing g nodes.n nodes.heads.now
+  pub down-are : nodes.down.now ≡ g.down
   pub tinted : Tinted g.plan tints
 
 -- Node r is an entry, the options xs are written, and there is room for r's option behind them.
@@ -30,8 +32,8 @@ pub record OptionAt (g : Ground) (old lists : Out) (xs : List Numbered) (heads :
   pub written : Written old lists xs option entry
 
 -- The options xs are written, and there is room behind them for those met in column c.
-pub record ColumnAt (g : Ground) (old lists : Out) (xs : List Numbered) (n : ℕ) (heads : List ℤ) (down tints : List ℕ) (c option entry : ℕ) : Type 0 where
-  pub nodes : Nodes g n heads down tints
+pub record ColumnAt (g : Ground) (old lists : Out) (xs : List Numbered) (nodes : Nodes) (tints : List ℕ) (c option entry : ℕ) : Type 0 where
+  pub laid : Laid g nodes tints
   pub column : Header g.plan c
   pub room : Suffices old (xs ++ column_options g c)
   pub written : Written old lists xs option entry

@@ -1,22 +1,11 @@
 // Zeros in every place of a list, also past the part that was needed.
-ghost use Rattle.std.specs.Prelude.{◌≡◌, map, ℕ, ℤ, pos};
+ghost use Rattle.std.specs.Prelude.{◌≡◌, map};
 
-pub fn clear(list: &mut [u32])
-    ensures { list.new ≡ map (λ (x : ℕ). 0) list.old }
+// By hand, since `fill` asks that a clone cannot fail, which `Copy` alone does not say.
+pub fn clear<T: Copy>(list: &mut [T], zero: T)
+    ensures { list.new ≡ map (λ (x : T). zero) list.old }
 {
-    let mut i = 0;
-    while i < list.len() {
-        list[i] = 0;
-        i += 1;
-    }
-}
-
-pub fn clear_heads(heads: &mut [i32])
-    ensures { heads.new ≡ map (λ (x : ℤ). pos 0) heads.old }
-{
-    let mut i = 0;
-    while i < heads.len() {
-        heads[i] = 0;
-        i += 1;
+    for i in 0..list.len() {
+        list[i] = zero;
     }
 }

@@ -3,55 +3,35 @@ ghost use Rattle.std.specs.Prelude.{List, [], ◌∷◌, ◌++◌};
 ghost use Rattle.rules.specs.Result.{Numbered};
 ghost use Rattle.links.specs.Ground.{Ground};
 ghost use Rattle.result.specs.Left.{option_from};
-ghost use Rattle.result.specs.Writing.{Out, out, Written};
+ghost use Rattle.result.specs.Writing.{Out, Written};
+ghost use Rattle.result.specs.Writer.{SameWriter, lists_of};
 ghost use Rattle.result.specs.Reading.{OptionAt};
 
-use links::head::{is_boundary, item_at, option_at};
-
-// How many options and entries are written.
-#[derive(Clone, Copy)]
-pub struct Cursor {
-    pub option: usize,
-    pub entry: usize,
-}
+use crate::writer::Writer;
+use links::nodes::Nodes;
 
 // Writes the option of r from r on, behind what is written: its live entries up to the boundary, with their colours, the end of its entries, and
 // its number, which the boundary holds. Shortened entries are passed over. With r its first live entry that is all of the option: the Rust goes
 // back to the boundary before r first.
-pub fn get_option(
-    heads: &[i32],
-    tints: &[u32],
-    r: usize,
-    ends: &mut [u32],
-    numbers: &mut [u32],
-    items: &mut [u32],
-    colours: &mut [u32],
-    at: Cursor,
-) -> Cursor
+pub fn get_option(nodes: &Nodes, tints: &[u32], r: usize, out: &mut Writer)
     requires { (g : Ground) × (old : Out) × (xs : List Numbered)
-        × OptionAt g old (out ends.old numbers.old items.old colours.old) xs heads.now tints.now r at.option at.entry }
-    ensures { (g : Ground) (old : Out) (xs : List Numbered)
-        → OptionAt g old (out ends.old numbers.old items.old colours.old) xs heads.now tints.now r at.option at.entry
-        → Written old (out ends.new numbers.new items.new colours.new) (xs ++ (option_from g r ∷ [])) result.option result.entry }
+        × OptionAt g old (lists_of out.old) xs nodes.now.heads.now tints.now r out.old.option out.old.entry }
+    ensures lists { SameWriter out.old out.new }
+    ensures option { (g : Ground) (old : Out) (xs : List Numbered)
+        → OptionAt g old (lists_of out.old) xs nodes.now.heads.now tints.now r out.old.option out.old.entry
+        → Written old (lists_of out.new) (xs ++ (option_from g r ∷ [])) out.new.option out.new.entry }
 {
-    let option = at.option;
-    let mut entry = at.entry;
     let mut q = r;
-    while !is_boundary(heads, q) {
-        let i = item_at(heads, q);
-        if i == 0 {
-            q += 1;
-            continue;
+    // to the boundary, whose place is known only when it is met
+    let number = loop {
+        if let Some(k) = nodes.option(q) {
+            break k;
         }
-        items[entry] = (i - 1) as u32;
-        colours[entry] = tints[q];
-        entry += 1;
+        let item = nodes.item(q);
+        if let Some(i) = item {
+            out.put((i - 1) as u32, tints[q]);
+        }
         q += 1;
-    }
-    ends[option] = entry as u32;
-    numbers[option] = option_at(heads, q);
-    Cursor {
-        option: option + 1,
-        entry: entry,
-    }
+    };
+    out.end(number);
 }

@@ -1,101 +1,71 @@
 // The options that are left (p.rs `get_options`): by first live item upward, and for one item by number.
-ghost use Rattle.std.specs.Prelude.{◌≡◌, List, ◌++◌, ℕ, length};
+ghost use Rattle.std.specs.Prelude.{◌≡◌, List, ◌++◌, length};
+ghost use Rattle.rules.specs.Lent.{SameResults};
 ghost use Rattle.rules.specs.Result.{Numbered, kept_options, results_of};
 ghost use Rattle.links.specs.Ground.{Ground};
 ghost use Rattle.links.specs.Shown.{shown};
 ghost use Rattle.result.specs.Left.{column_options};
-ghost use Rattle.result.specs.Writing.{Out, out, Written};
-ghost use Rattle.result.specs.Reading.{Nodes, ColumnAt, Holding, Returned};
+ghost use Rattle.result.specs.Writing.{Out, Written};
+ghost use Rattle.result.specs.Writer.{SameWriter, lists_of, lists_in};
+ghost use Rattle.result.specs.Reading.{Laid, ColumnAt, Holding, Returned};
 
-use crate::option::{Cursor, get_option};
-use links::column::link;
-use links::head::item_at;
-use links::lead::lead;
+use crate::option::get_option;
+use crate::writer::Writer;
+use links::nodes::Nodes;
+use rules::lent::Results;
+
+// How many options and entries are written.
+#[derive(Clone, Copy, Debug, PartialEq, Eq)]
+pub struct Cursor {
+    pub option: usize,
+    pub entry: usize,
+}
 
 // Writes the options whose first live entry is in column c, from the top down, behind what is written. Below the last entry comes the header again.
-fn get_column(
-    heads: &[i32],
-    down: &[u32],
-    tints: &[u32],
-    n: usize,
-    c: usize,
-    ends: &mut [u32],
-    numbers: &mut [u32],
-    items: &mut [u32],
-    colours: &mut [u32],
-    at: Cursor,
-) -> Cursor
+fn get_column(nodes: &Nodes, tints: &[u32], c: usize, out: &mut Writer)
     requires { (g : Ground) × (old : Out) × (xs : List Numbered)
-        × ColumnAt g old (out ends.old numbers.old items.old colours.old) xs n heads.now down.now tints.now c at.option at.entry }
-    ensures { (g : Ground) (old : Out) (xs : List Numbered)
-        → ColumnAt g old (out ends.old numbers.old items.old colours.old) xs n heads.now down.now tints.now c at.option at.entry
-        → Written old (out ends.new numbers.new items.new colours.new) (xs ++ column_options g c) result.option result.entry }
+        × ColumnAt g old (lists_of out.old) xs nodes.now tints.now c out.old.option out.old.entry }
+    ensures lists { SameWriter out.old out.new }
+    ensures column { (g : Ground) (old : Out) (xs : List Numbered)
+        → ColumnAt g old (lists_of out.old) xs nodes.now tints.now c out.old.option out.old.entry
+        → Written old (lists_of out.new) (xs ++ column_options g c) out.new.option out.new.entry }
 {
-    let mut next = at;
-    let mut r = link(down, c);
-    while r >= n + 2 {
-        let z = lead(heads, down, r);
-        if item_at(heads, z) != 0 {
-            r = link(down, r);
-            continue;
+    let mut r = nodes.below(c);
+    // down the column's links
+    while r >= nodes.start {
+        let first = nodes.item(nodes.lead(r)).is_none();
+        if first {
+            get_option(nodes, tints, r, out);
         }
-        next = get_option(
-            heads,
-            tints,
-            r,
-            &mut *ends,
-            &mut *numbers,
-            &mut *items,
-            &mut *colours,
-            next,
-        );
-        r = link(down, r);
+        r = nodes.below(r);
     }
-    next
 }
 
 // Writes the options that are left to the fronts of the four lists, item by item; how many options and entries that are.
-pub fn get_options(
-    heads: &[i32],
-    down: &[u32],
-    tints: &[u32],
-    n: usize,
-    ends: &mut [u32],
-    numbers: &mut [u32],
-    items: &mut [u32],
-    colours: &mut [u32],
-) -> Cursor
-    requires { (g : Ground) × Nodes g n heads.now down.now tints.now
-        × Holding (results_of n (shown g.plan g.on)) (out ends.old numbers.old items.old colours.old) }
-    ensures { (g : Ground) → Nodes g n heads.now down.now tints.now
-        → Holding (results_of n (shown g.plan g.on)) (out ends.old numbers.old items.old colours.old)
-        → Returned (results_of n (shown g.plan g.on)) (out ends.old numbers.old items.old colours.old)
-        (out ends.new numbers.new items.new colours.new)
-        × (result.option ≡ length (kept_options n (shown g.plan g.on))) × (result.entry ≡ length (results_of n (shown g.plan g.on)).items) }
+pub fn get_options(nodes: &Nodes, tints: &[u32], results: &mut Results<u32>) -> Cursor
+    requires { (g : Ground) × Laid g nodes.now tints.now × Holding (results_of nodes.now.n (shown g.plan g.on)) (lists_in results.old) }
+    ensures lists { SameResults results.old results.new }
+    ensures kept { results.new.kept.now ≡ results.old.kept.now }
+    ensures options { (g : Ground) → Laid g nodes.now tints.now → Holding (results_of nodes.now.n (shown g.plan g.on)) (lists_in results.old)
+        → Returned (results_of nodes.now.n (shown g.plan g.on)) (lists_in results.old) (lists_in results.new)
+        × (result.option ≡ length (kept_options nodes.now.n (shown g.plan g.on)))
+        × (result.entry ≡ length (results_of nodes.now.n (shown g.plan g.on)).items) }
 {
-    let mut at = Cursor {
+    let mut out = Writer {
+        ends: &mut *results.ends,
+        numbers: &mut *results.numbers,
+        items: &mut *results.items,
+        colours: &mut *results.colours,
         option: 0,
         entry: 0,
     };
-    let mut c = 0;
-    while c < n {
-        if item_at(heads, c + 1) == 0 {
-            c += 1;
-            continue;
+    for c in 0..nodes.n {
+        if !nodes.is_empty(c + 1) {
+            get_column(nodes, tints, c + 1, &mut out);
         }
-        at = get_column(
-            heads,
-            down,
-            tints,
-            n,
-            c + 1,
-            &mut *ends,
-            &mut *numbers,
-            &mut *items,
-            &mut *colours,
-            at,
-        );
-        c += 1;
     }
-    at
+    Cursor {
+        option: out.option,
+        entry: out.entry,
+    }
 }

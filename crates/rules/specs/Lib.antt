@@ -8,6 +8,7 @@ pub mod Rounds
 pub mod Result
 pub mod Renumber
 pub mod Cover
+pub mod Refusals
 pub mod Paper
 pub mod Outcome
 pub mod Samples
@@ -15,3 +16,4 @@ pub mod Cases
 pub mod Promises
 pub mod Sizing
 pub mod SecondRun
+pub mod Lent

@@ -3,6 +3,9 @@
 use Rattle.std.specs.Prelude.{ℕ, Bool, cond, List, [], ◌∷◌}
 use Rattle.rules.specs.declared.answer.Answer.{Answer}
 use Rattle.rules.specs.declared.answer.Answer.TheVariants.{Reduced, Infeasible, Refused}
+use Rattle.rules.specs.declared.answer.Cause.{Cause}
+use Rattle.rules.specs.declared.answer.Cause.TheVariants.{Start, Redundant, Blocked}
+use Rattle.rules.specs.Refusals.{number_of}
 
 pub record Said : Type 0 where
   pub number : ℕ
@@ -21,8 +24,14 @@ said_infeasible item cause round = record { number = 1; values = item ∷ cause 
 abbrev pub said_refused : ℕ → ℕ → Said
 said_refused number place = record { number = number; values = place ∷ [] }
 
+-- the number of each cause
+abbrev pub cause_number : Cause → ℕ
+cause_number Start = 1
+cause_number Redundant = 2
+cause_number Blocked = 3
+
 -- what each case of the answer says
 abbrev pub paper : Answer → Said
 paper (Reduced primaries secondaries options entries rounds settled) = said_reduced primaries secondaries options entries rounds settled
-paper (Infeasible item cause round) = said_infeasible item.0 cause round
-paper (Refused number place) = said_refused number place
+paper (Infeasible item cause round) = said_infeasible item.0 (cause_number cause) round
+paper (Refused r) = said_refused (number_of r.check) r.place

@@ -1,10 +1,31 @@
 // What a call answers.
 ghost use Rattle.std.specs.Prelude.{◌≡◌};
-ghost use Rattle.rules.specs.Paper.{paper};
+ghost use Rattle.rules.specs.Paper.{paper, cause_number};
 
 use crate::number::Item;
+use crate::refusal::Refusal;
 
-#[derive(Clone, Copy)]
+// Why a primary item is in no option.
+#[derive(Clone, Copy, PartialEq, Eq, Debug)]
+pub enum Cause {
+    // it was in none at the start
+    Start = 1,
+    // a redundant item was removed, and its last options with it
+    Redundant = 2,
+    // its last options were blocked
+    Blocked = 3,
+}
+
+impl Cause {
+    // The number that document 01 gives the cause.
+    pub fn number(self) -> u32
+        ensures { result ≡ cause_number self }
+    {
+        self as u32
+    }
+}
+
+#[derive(Clone, Copy, PartialEq, Eq, Debug)]
 pub enum Answer {
     // 0: the counts of kept primaries, secondaries, options and entries; the rounds run; whether the last one removed nothing
     Reduced {
@@ -18,14 +39,11 @@ pub enum Answer {
     // 1: the primary item that is in no option, why, and in which round
     Infeasible {
         item: Item,
-        cause: u32,
+        cause: Cause,
         round: u32,
     },
     // 10 to 22: which check refuses the input, and at which entry or option
-    Refused {
-        number: u32,
-        place: u32,
-    },
+    Refused(Refusal),
 }
 
 impl Answer {
@@ -34,20 +52,9 @@ impl Answer {
         ensures { result ≡ (paper self).number }
     {
         match self {
-            Answer::Reduced {
-                primaries: _,
-                secondaries: _,
-                options: _,
-                entries: _,
-                rounds: _,
-                settled: _,
-            } => 0,
-            Answer::Infeasible {
-                item: _,
-                cause: _,
-                round: _,
-            } => 1,
-            Answer::Refused { number, place: _ } => number,
+            Answer::Reduced { .. } => 0,
+            Answer::Infeasible { .. } => 1,
+            Answer::Refused(refusal) => refusal.check.number(),
         }
     }
 }

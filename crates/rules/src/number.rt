@@ -1,26 +1,26 @@
-// An item's number and an option's number: two kinds, so that neither can stand where the other is meant.
+// An item's number and an option's number: two kinds, alike but for the name, so that neither can stand where the other is meant.
 ghost use Rattle.std.specs.Prelude.{◌≡◌};
 
-#[derive(Clone, Copy)]
+#[derive(Clone, Copy, PartialEq, Eq, Debug)]
 pub struct Item(pub u32);
 
-#[derive(Clone, Copy)]
+#[derive(Clone, Copy, PartialEq, Eq, Debug)]
 pub struct Opt(pub u32);
 
-impl Item {
-    // The item with this number.
-    pub fn new(number: u32) -> Item
-        ensures { result.0 ≡ number }
-    {
+// The item with this number.
+impl From<u32> for Item {
+    ghost from_gives = { λ number item. item.0 ≡ number };
+
+    fn from(number: u32) -> Item {
         Item(number)
     }
 }
 
-impl Opt {
-    // The option with this number.
-    pub fn new(number: u32) -> Opt
-        ensures { result.0 ≡ number }
-    {
+// The option with this number.
+impl From<u32> for Opt {
+    ghost from_gives = { λ number option. option.0 ≡ number };
+
+    fn from(number: u32) -> Opt {
         Opt(number)
     }
 }

@@ -1,36 +1,56 @@
-// Lists compared in full.
-use lines::say;
+// Lists compared in full, each with what is written of it.
+use crate::lists::PATTERN;
+use crate::show::Numbers;
+use lines::parts::front;
+use std::fmt;
 
-// Names a list that isn't as it must be.
-pub(crate) fn is_right(name: &[u8], right: bool) -> bool {
-    if !right {
-        say::text(name);
-        say::text(b" WRONG");
-    }
-    right
+// A list after a call: its name, the front that is written, and whether it is as it must be.
+#[derive(Clone, Copy)]
+pub(crate) struct Found<'a> {
+    name: &'static str,
+    front: &'a [u32],
+    right: bool,
 }
 
-// Whether a list holds one number only, from a place up to another, as far as it goes.
-pub(crate) fn is_all(l: &[u32], from: usize, to: usize, n: u32) -> bool {
-    let mut k = from;
-    while k < l.len() {
-        if (k < to) & (l[k] != n) {
-            return false;
-        }
-        k += 1;
-    }
-    true
+// Whether a list holds one number only.
+fn is_all<T: PartialEq>(l: &[T], n: &T) -> bool {
+    l.iter().all(|m| m == n)
 }
 
-// The same of signed numbers, from the first on.
-pub(crate) fn is_all_signed(l: &[i32], to: usize, n: i32) -> bool {
-    let mut k = 0;
-    while k < l.len() {
-        let m = l[k];
-        if (k < to) & (m != n) {
-            return false;
+impl<'a> Found<'a> {
+    // A list of the result: n numbers at its front, and the pattern behind them.
+    pub(crate) fn result(name: &'static str, l: &'a [u32], n: usize) -> Found<'a> {
+        Found {
+            name,
+            front: front(l, n),
+            right: is_all(l.get(n..).unwrap_or(&[]), &PATTERN),
         }
-        k += 1;
     }
-    true
+
+    // A working list, of which nothing is written: as far as it was lent, it must hold one number only.
+    pub(crate) fn working<T: PartialEq>(name: &'static str, lent: &[T], n: &T) -> Found<'a> {
+        Found {
+            name,
+            front: &[],
+            right: is_all(lent, n),
+        }
+    }
+
+    pub(crate) fn is_right(self) -> bool {
+        self.right
+    }
+}
+
+impl fmt::Display for Found<'_> {
+    fn fmt<W: fmt::Write>(&self, f: &mut fmt::Formatter<W>) -> fmt::Result {
+        let name = self.name;
+        if !self.front.is_empty() {
+            let numbers = Numbers(self.front);
+            write!(f, "{name}{numbers}")?;
+        }
+        if !self.right {
+            write!(f, "{name} WRONG")?;
+        }
+        Ok(())
+    }
 }

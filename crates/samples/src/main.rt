@@ -15,27 +15,17 @@
 
 mod case;
 mod compare;
+mod lists;
 mod renumber;
+mod report;
 mod rule;
 mod run;
 mod show;
 
-use lines::text::{between, find, next};
-
-// Line by line: there are no more lines than bytes.
-fn cases(t: &[u8]) {
-    let mut at = 0;
-    for _ in 0..t.len() {
-        let end = find(t, at, b'\n');
-        if end < t.len() {
-            case::line(between(t, at, end));
-        }
-        at = next(end);
-    }
-}
+use lines::text::each_line;
 
 fn main() {
     let mut text = io::large_buffer();
     let n = io::read_full(0, &mut text);
-    cases(&text[..n]);
+    each_line(&text[..n], case::line);
 }

@@ -28,7 +28,7 @@ use Rattle.showing.proofs.InOrder.{nodes_in, by_rows, row_one, row-none}
 use Rattle.showing.proofs.Around.{around-shown}
 use Rattle.showing.proofs.Columns.{column→, column←, column-holds}
 
-up_to-end : (n : ℕ) → up_to (suc n) ≡ up_to n ++ (n ∷ [])
+pub up_to-end : (n : ℕ) → up_to (suc n) ≡ up_to n ++ (n ∷ [])
 up_to-end n =
     let e : suc n ≡ n + 1 = omega arith in
     let f : 0 + n ≡ n = omega arith in

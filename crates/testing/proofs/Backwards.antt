@@ -7,14 +7,17 @@ use mathlib.Core.Bool.{true}
 use mathlib.Core.List.{List, ◌++◌}
 use lib.ListN.{length}
 use lib.IntN.{ℤ}
+use Rattle.std.specs.Prelude.{None, Some}
 use Rattle.links.specs.Head.{item_of, head}
 use Rattle.links.specs.Column.{at}
 use Rattle.links.specs.Plan.{EntryOf, Header}
 use Rattle.links.specs.Ground.{Ground, Tidy, taken, Fresh, Holds}
 use Rattle.links.specs.Row.{walked}
 use Rattle.links.specs.Way.{way_back}
+use Rattle.links.specs.Nodes.{item_in}
+use Rattle.links.proofs.Endings.{item_none, item_some}
 use Rattle.links.specs.Taking.{rivals, testing}
-use Rattle.links.proofs.Plans.{entry-till, row-mate}
+use Rattle.links.proofs.Plans.{row-mate}
 use Rattle.links.proofs.Rows.{At, walked_none}
 use Rattle.links.proofs.Grounds.{fresh-front}
 use Rattle.testing.specs.Undo.{after, Below, Behind}
@@ -23,7 +26,7 @@ use Rattle.testing.proofs.Back as Back
 use Rattle.testing.proofs.Upwards.{header-in, from-header}
 use Rattle.testing.proofs.Testing.{testing-more}
 
-module _ (h : Ground) (tints : List ℕ) (k r s : ℕ) (heads : List ℤ) (up down : List ℕ) (m : Behind h tints k r s heads up down) where
+module _ {h : Ground} {tints : List ℕ} {k r s : ℕ} {heads : List ℤ} {up down : List ℕ} (m : Behind h tints k r s heads up down) where
   abbrev out : List ℕ
   out = testing h (walked h r (k + 1))
 
@@ -38,13 +41,16 @@ module _ (h : Ground) (tints : List ℕ) (k r s : ℕ) (heads : List ℤ) (up do
   behind-done e = subst (λ (qs : List ℕ). Holds (taken h (testing h qs)) heads up down) (ap (λ (j : ℕ). walked h r (j + 1)) e ∙ walked_none h m.tidy r m.entry) m.holds
 
   module _ (d : k ≢ r) where
-    -- over a head of 0
-    module _ (z : item_of (head heads k) ≡ 0) where
+    -- over a head without an item
+    module _ (none : None ≡ item_in (head heads k)) where
+      no_item : item_of (head heads k) ≡ 0
+      no_item = item_none (head heads k) none
+
       on-at : At h r (at down k + 1)
-      on-at = Back.over-at h out m.tidy m.fresh r m.entry heads up down m.holds k m.from m.till d z
+      on-at = Back.over-at h out m.tidy m.fresh r m.entry heads up down m.holds k m.from m.till d no_item
 
       same-walked : walked h r (k + 1) ≡ walked h r (at down k + 1)
-      same-walked = sym (Back.over-walked h out m.tidy m.fresh r m.entry heads up down m.holds k m.from m.till d z)
+      same-walked = sym (Back.over-walked h out m.tidy m.fresh r m.entry heads up down m.holds k m.from m.till d no_item)
 
       pub behind-over : Behind h tints (at down k) r s heads up down
       behind-over = record {
@@ -60,15 +66,18 @@ module _ (h : Ground) (tints : List ℕ) (k r s : ℕ) (heads : List ℤ) (up do
       }
 
       pub behind-over-way : (n : ℕ) → length heads ≡ n → way_back n r (at down k) < way_back n r k
-      behind-over-way = Back.over-way h out m.tidy m.fresh r m.entry heads up down m.holds k m.from m.till d z
+      behind-over-way = Back.over-way h out m.tidy m.fresh r m.entry heads up down m.holds k m.from m.till d no_item
 
-    -- at an entry
-    module _ (z : item_of (head heads k) ≢ 0) where
+    -- at an entry of column i
+    module _ {i : ℕ} (some : Some i ≡ item_in (head heads k)) where
+      an_item : item_of (head heads k) ≢ 0
+      an_item e = omega (arith, e, (item_some (head heads k) i some).1)
+
       at_entry : At h r k
-      at_entry = Back.full_at h out m.tidy m.fresh r m.entry heads up down m.holds k m.from m.till d z
+      at_entry = Back.full_at h out m.tidy m.fresh r m.entry heads up down m.holds k m.from m.till d an_item
 
-      item-is : item_of (head heads k) ≡ h.plan.col k
-      item-is = Back.full-col h out m.tidy m.fresh r m.entry heads up down m.holds k m.from m.till d z
+      item-is : i ≡ h.plan.col k
+      item-is = sym (item_some (head heads k) i some).0 ∙ Back.full-col h out m.tidy m.fresh r m.entry heads up down m.holds k m.from m.till d an_item
 
       entry : EntryOf h.plan k
       entry = row-mate h.plan m.tidy.planned r k m.entry at_entry.from (omega (arith, m.till))
@@ -84,7 +93,7 @@ module _ (h : Ground) (tints : List ℕ) (k r s : ℕ) (heads : List ℤ) (up do
       then = after h earlier
 
       one_more : out ≡ earlier ++ rivals then k
-      one_more = ap (testing h) (Back.full-one h out m.tidy m.fresh r m.entry heads up down m.holds k m.from m.till d z) ∙ testing-more h (walked h r k) k
+      one_more = ap (testing h) (Back.full-one h out m.tidy m.fresh r m.entry heads up down m.holds k m.from m.till d an_item) ∙ testing-more h (walked h r k) k
 
       fresh-one : Fresh h (earlier ++ rivals then k)
       fresh-one = subst (λ (xs : List ℕ). Fresh h xs) one_more m.fresh
@@ -101,24 +110,20 @@ module _ (h : Ground) (tints : List ℕ) (k r s : ℕ) (heads : List ℤ) (up do
       holds-last : Holds (taken then (rivals then k)) heads up down
       holds-last = subst (λ (G : Ground). Holds G heads up down) (ap (taken h) one_more ∙ sym (after_more h earlier (rivals then k))) m.holds
 
-      pub behind-tint : k < length tints
-      behind-tint = omega (arith, entry-till h.plan m.tidy.planned k entry, m.tinted.room)
-
       -- the header of the column is where it was
       header-on : then.on (h.plan.col k) ≡ true
       header-on = after-header h earlier m.tidy fresh-earlier (h.plan.col k) col-header ∙ m.headers (h.plan.col k) col-header
 
-      pub behind-link : item_of (head heads k) < length up
+      pub behind-link : i < length up
       behind-link = rw item-is (header-in then tints (h.plan.col k) (h.plan.tint k) s then-tidy col-header header-on fresh-last heads up down holds-last)
 
-      pub behind-below : (p x : ℕ) → p ≡ at up (item_of (head heads k)) → x ≡ at tints k → Below (after h (testing h (walked h r k))) tints p x s heads up down
-      behind-below p x e q =
-          let e' : p ≡ at up (h.plan.col k) = e ∙ ap (at up) item-is in
-          let q' : x ≡ h.plan.tint k = q ∙ m.tinted.tint k entry in
-          rw (e', q') (from-header then tints (h.plan.col k) (h.plan.tint k) s then-tidy col-header header-on fresh-last heads up down holds-last m.tinted m.starts)
+      pub behind-below : {p : ℕ} → p ≡ at up i → Below (after h (testing h (walked h r k))) tints p (at tints k) s heads up down
+      behind-below a =
+          rw (a, item-is, m.tinted.tint k entry)
+          (from-header then tints (h.plan.col k) (h.plan.tint k) s then-tidy col-header header-on fresh-last heads up down holds-last m.tinted m.starts)
 
-      pub behind-back : (heads' : List ℤ) (up' down' : List ℕ) → Holds (after h (testing h (walked h r k))) heads' up' down' → Behind h tints (k - 1) r s heads' up' down'
-      behind-back heads' up' down' l =
+      pub behind-back : {heads' : List ℤ} {up' down' : List ℕ} → Holds (after h (testing h (walked h r k))) heads' up' down' → Behind h tints (k - 1) r s heads' up' down'
+      behind-back l =
           let e : k - 1 + 1 ≡ k = omega (arith, behind-some) in
           record {
             tidy = m.tidy;
@@ -131,6 +136,3 @@ module _ (h : Ground) (tints : List ℕ) (k r s : ℕ) (heads : List ℤ) (up do
             fresh = rw e fresh-earlier;
             holds = rw e (held h earlier l);
           }
-
-      pub behind-back-way : (n : ℕ) → length heads ≡ n → way_back n r (k - 1) < way_back n r k
-      behind-back-way = Back.full-way h out m.tidy m.fresh r m.entry heads up down m.holds k m.from m.till d z

@@ -8,15 +8,17 @@ use mathlib.Core.List.{List, [], ◌∷◌, ◌++◌, Memᴰ as In}
 use borrow.Author.Tests.{eq-eqb, ne_eqb, le-leb}
 use lib.ListN.{length, set}
 use lib.IntN.{ℤ, pos}
+use Rattle.std.specs.Prelude.{None, Some}
 use Rattle.links.specs.Head.{item_of, head}
 use Rattle.links.specs.Column.{at, cut_up, cut_down}
 use Rattle.links.specs.Plan.{hi, EntryOf}
 use Rattle.links.specs.Ground.{Ground, Tidy, Within, taken, Fresh, Holds}
 use Rattle.links.specs.Row.{walked, others}
 use Rattle.links.specs.Way.{way}
+use Rattle.links.specs.Nodes.{item_in}
+use Rattle.links.proofs.Endings.{item_none, item_some}
 use Rattle.links.specs.Taking.{rival_at}
 use Rattle.links.proofs.Stores.{read_set}
-use Rattle.links.proofs.Plans.{row-till}
 use Rattle.links.proofs.Rows.{At, In-walked, others-In}
 use Rattle.links.proofs.Gathering.{gather-one}
 use Rattle.testing.specs.Stops.{stops_at}
@@ -25,6 +27,8 @@ use Rattle.testing.specs.Forward.{Alive, ground_at, rivals_to, ground_to, Inner,
 use Rattle.links.proofs.Grounds.{fresh-within}
 use Rattle.testing.proofs.After.{after-tidy, after_more, after-others, after-within, fresh-after, fresh-one-more, take_out, fewer-asks, unlink-asks}
 use Rattle.testing.proofs.Forth as Forth
+use Rattle.testing.proofs.Columns.{rival→}
+use Rattle.testing.proofs.Rivals.{Passed}
 use Rattle.testing.proofs.Stages.{ground-tidy, rivals-fresh, rival-row}
 
 -- where the walk does not stop, no column is emptied that must not be
@@ -38,19 +42,19 @@ alive-less h marks r np heads i a k n j hd le not_own some = ⊎_elim own other 
     other : (j ≢ i) × (head (set heads i (pos (item_of (head heads i) - 1))) j ≡ head heads j) → 0 < item_of (head (set heads i (pos (item_of (head heads i) - 1))) j)
     other w = rw w.1 (a j hd le not_own some)
 
-module _ (h : Ground) (tints marks : List ℕ) (r s np : ℕ) (heads : List ℤ) (up down : List ℕ) (q p qq : ℕ) (m : Inner h tints marks r s np heads up down q p qq) where
+module _ {h : Ground} {tints marks : List ℕ} {r s np : ℕ} {heads : List ℤ} {up down : List ℕ} {q p qq : ℕ} (m : Inner h tints marks r s np q p qq heads up down) where
   g-tidy : Tidy (ground_at h r q)
-  g-tidy = ground-tidy h tints marks r s np q m.item
+  g-tidy = ground-tidy m.item
 
   before-fresh : Fresh (ground_at h r q) (rivals_to h r q p)
-  before-fresh = rivals-fresh h tints marks r s np q m.item p
+  before-fresh = rivals-fresh m.item p
 
   -- the ground when the walk came to p
   pub to-tidy : Tidy (ground_to h r q p)
   to-tidy = after-tidy (ground_at h r q) (rivals_to h r q p) g-tidy before-fresh
 
   pub row : EntryOf h.plan p
-  row = rival-row h tints marks r s np q m.item p m.rival
+  row = rival-row m.item p m.rival
 
   one_more : rivals_to h r q (p + 1) ≡ rivals_to h r q p ++ others (ground_at h r q) p
   one_more = gather-one (rival_at (ground_at h r q) (h.plan.col q) (h.plan.tint q)) (ground_at h r q) p m.rival
@@ -61,32 +65,40 @@ module _ (h : Ground) (tints marks : List ℕ) (r s np : ℕ) (heads : List ℤ)
   pub others-fresh : Fresh (ground_to h r q p) (others (ground_to h r q p) p)
   others-fresh =
       subst (λ (xs : List ℕ). Fresh (ground_to h r q p) xs) (sym same-others)
-      (fresh-after (ground_at h r q) (rivals_to h r q p) (others (ground_at h r q) p) (subst (λ (xs : List ℕ). Fresh (ground_at h r q) xs) one_more (rivals-fresh h tints marks r s np q m.item (p + 1))))
+      (fresh-after (ground_at h r q) (rivals_to h r q p) (others (ground_at h r q) p) (subst (λ (xs : List ℕ). Fresh (ground_at h r q) xs) one_more (rivals-fresh m.item (p + 1))))
 
   pub inner-in : (qq < length heads) × (qq < length up)
   inner-in = Forth.forth-in (ground_to h r q p) (walked (ground_to h r q p) p qq) to-tidy m.fresh p row heads up down m.holds qq m.from m.till
 
-  pub inner-fits : qq < 1048576
-  inner-fits = omega (arith, m.till, row-till h.plan to-tidy.planned p row, to-tidy.planned.small)
-
   -- the walk came round: p's others are out
-  pub inner-done : qq ≡ p → Holds (taken (ground_at h r q) (rivals_to h r q (p + 1))) heads up down
+  pub inner-done : qq ≡ p → Passed h tints marks r s np q p heads up down
   unfolding others
   inner-done e =
-      subst (λ (G : Ground). Holds G heads up down)
-      (ap (λ (k : ℕ). taken (ground_to h r q p) (walked (ground_to h r q p) p k)) e ∙ ap (taken (ground_to h r q p)) same-others ∙ after_more (ground_at h r q) (rivals_to h r q p) (others (ground_at h r q) p) ∙ ap (taken (ground_at h r q)) (sym one_more))
-      m.holds
+      let rival = rival→ (ground_at h r q) (h.plan.col q) (h.plan.tint q) p m.rival in
+      record {
+        item = m.item;
+        behind = omega (arith, rival.2, m.item.test.starts);
+        on = rival.0;
+        col = rival.1;
+        alive = m.alive;
+        holds = subst (λ (G : Ground). Holds G heads up down)
+            (ap (λ (k : ℕ). taken (ground_to h r q p) (walked (ground_to h r q p) p k)) e ∙ ap (taken (ground_to h r q p)) same-others ∙ after_more (ground_at h r q) (rivals_to h r q p) (others (ground_at h r q) p) ∙ ap (taken (ground_at h r q)) (sym one_more))
+            m.holds;
+      }
 
   module _ (d : qq ≢ p) where
-    -- over a head of 0
-    module _ (z : item_of (head heads qq) ≡ 0) where
+    -- over a head without an item
+    module _ (none : None ≡ item_in (head heads qq)) where
+      no_item : item_of (head heads qq) ≡ 0
+      no_item = item_none (head heads qq) none
+
       on-at : At (ground_to h r q p) p (at up qq)
-      on-at = Forth.over-at (ground_to h r q p) (walked (ground_to h r q p) p qq) to-tidy m.fresh p row heads up down m.holds qq m.from m.till d z
+      on-at = Forth.over-at (ground_to h r q p) (walked (ground_to h r q p) p qq) to-tidy m.fresh p row heads up down m.holds qq m.from m.till d no_item
 
       same-walked : walked (ground_to h r q p) p qq ≡ walked (ground_to h r q p) p (at up qq)
-      same-walked = sym (Forth.over-walked (ground_to h r q p) (walked (ground_to h r q p) p qq) to-tidy m.fresh p row heads up down m.holds qq m.from m.till d z)
+      same-walked = sym (Forth.over-walked (ground_to h r q p) (walked (ground_to h r q p) p qq) to-tidy m.fresh p row heads up down m.holds qq m.from m.till d no_item)
 
-      pub inner-over : Inner h tints marks r s np heads up down q p (at up qq)
+      pub inner-over : Inner h tints marks r s np q p (at up qq) heads up down
       inner-over = record {
         item = m.item;
         rival = m.rival;
@@ -98,7 +110,7 @@ module _ (h : Ground) (tints marks : List ℕ) (r s np : ℕ) (heads : List ℤ)
       }
 
       pub inner-over-way : (n : ℕ) → length heads ≡ n → way n p (at up qq) < way n p qq
-      inner-over-way = Forth.over-way (ground_to h r q p) (walked (ground_to h r q p) p qq) to-tidy m.fresh p row heads up down m.holds qq m.from m.till d z
+      inner-over-way = Forth.over-way (ground_to h r q p) (walked (ground_to h r q p) p qq) to-tidy m.fresh p row heads up down m.holds qq m.from m.till d no_item
 
     pub inner-way : (n : ℕ) → length heads ≡ n → way n p (qq + 1) < way n p qq
     inner-way = Forth.full-way (ground_to h r q p) (walked (ground_to h r q p) p qq) to-tidy m.fresh p row heads up down m.holds qq m.from m.till d
@@ -125,31 +137,39 @@ module _ (h : Ground) (tints marks : List ℕ) (r s np : ℕ) (heads : List ℤ)
           after-within (ground_to h r q p) (walked (ground_to h r q p) p qq) to-tidy m.fresh (fresh-within (ground_to h r q p) (others (ground_to h r q p) p) others-fresh among)
           (λ i. (In-walked (ground_to h r q p) to-tidy p row qq (record { from = m.from; till = m.till }) i).3 refl)
 
-      pub inner-fewer : (item_of (head heads qq) < length heads) × (item_of (head heads (item_of (head heads qq))) < 1048576) × (0 < item_of (head heads (item_of (head heads qq))))
-      inner-fewer = rw inner-col (fewer-asks (ground_to h r q p) (walked (ground_to h r q p) p qq) qq to-tidy m.fresh inner-within heads up down m.holds)
-
-      pub inner-mark : item_of (head heads qq) < length marks
-      inner-mark = rw inner-col (omega (arith, (to-tidy.planned.entry qq inner-entry).below, m.item.test.marked.room))
-
-      pub inner-unlink : (qq < length up) × (qq < length down) × (at up qq < length down) × (at down qq < length up)
-      inner-unlink = unlink-asks (ground_to h r q p) (walked (ground_to h r q p) p qq) qq to-tidy m.fresh inner-within heads up down m.holds
-
       walked_more : walked (ground_to h r q p) p (qq + 1) ≡ walked (ground_to h r q p) p qq ++ (qq ∷ [])
       walked_more = Forth.full-one (ground_to h r q p) (walked (ground_to h r q p) p qq) to-tidy m.fresh p row heads up down m.holds qq m.from m.till d z
 
+    -- as the entry of column i
+    module _ {i : ℕ} (some : Some i ≡ item_in (head heads qq)) where
+      an_item : item_of (head heads qq) ≢ 0
+      an_item e = omega (arith, e, (item_some (head heads qq) i some).1)
+
+      item-is : i ≡ h.plan.col qq
+      item-is = sym (item_some (head heads qq) i some).0 ∙ inner-col an_item
+
+      pub inner-fewer : (i < length heads) × (item_of (head heads i) < 1048576) × (0 < item_of (head heads i))
+      inner-fewer = rw item-is (fewer-asks (ground_to h r q p) (walked (ground_to h r q p) p qq) qq to-tidy m.fresh (inner-within an_item) heads up down m.holds)
+
+      pub inner-mark : i < length marks
+      inner-mark = rw item-is (omega (arith, (to-tidy.planned.entry qq (inner-entry an_item)).below, m.item.test.marked.room))
+
+      pub inner-unlink : (qq < length up) × (qq < length down) × (at up qq < length down) × (at down qq < length up)
+      inner-unlink = unlink-asks (ground_to h r q p) (walked (ground_to h r q p) p qq) qq to-tidy m.fresh (inner-within an_item) heads up down m.holds
+
       -- it is taken out
-      pub inner-take : stops_at heads marks (item_of (head heads qq)) r np ≡ false
-          → Inner h tints marks r s np (set heads (item_of (head heads qq)) (pos (item_of (head heads (item_of (head heads qq))) - 1))) (cut_up up down qq) (cut_down up down qq) q p (qq + 1)
+      pub inner-take : stops_at heads marks i r np ≡ false
+          → Inner h tints marks r s np q p (qq + 1) (set heads i (pos (item_of (head heads i) - 1))) (cut_up up down qq) (cut_down up down qq)
       inner-take n = record {
         item = m.item;
         rival = m.rival;
         from = omega (arith, m.from);
-        till = omega (arith, inside);
-        fresh = subst (λ (xs : List ℕ). Fresh (ground_to h r q p) xs) (sym walked_more) (fresh-one-more (ground_to h r q p) (walked (ground_to h r q p) p qq) qq to-tidy m.fresh inner-within heads up down m.holds);
-        alive = alive-less h marks r np heads (item_of (head heads qq)) m.alive inner-fewer.0 n;
-        holds = rw inner-col (subst (λ (xs : List ℕ). Holds (taken (ground_to h r q p) xs) (set heads (h.plan.col qq) (pos (item_of (head heads (h.plan.col qq)) - 1))) (cut_up up down qq) (cut_down up down qq)) (sym walked_more) (take_out (ground_to h r q p) (walked (ground_to h r q p) p qq) qq to-tidy m.fresh inner-within heads up down m.holds));
+        till = omega (arith, inside an_item);
+        fresh = subst (λ (xs : List ℕ). Fresh (ground_to h r q p) xs) (sym (walked_more an_item)) (fresh-one-more (ground_to h r q p) (walked (ground_to h r q p) p qq) qq to-tidy m.fresh (inner-within an_item) heads up down m.holds);
+        alive = alive-less h marks r np heads i m.alive inner-fewer.0 n;
+        holds = rw item-is (subst (λ (xs : List ℕ). Holds (taken (ground_to h r q p) xs) (set heads (h.plan.col qq) (pos (item_of (head heads (h.plan.col qq)) - 1))) (cut_up up down qq) (cut_down up down qq)) (sym (walked_more an_item)) (take_out (ground_to h r q p) (walked (ground_to h r q p) p qq) qq to-tidy m.fresh (inner-within an_item) heads up down m.holds));
       }
 
       -- or the walk stops before it
-      pub inner-stops : stops_at heads marks (item_of (head heads qq)) r np ≡ true → Stopped h tints marks r s np heads up down q p qq
-      inner-stops n = record { inner = m; other = d; full = z; stops = n }
+      pub inner-stops : stops_at heads marks i r np ≡ true → Stopped h tints marks r s np q p qq heads up down
+      inner-stops n = record { inner = m; other = d; full = an_item; stops = rw (item_some (head heads qq) i some).0 n }

@@ -84,7 +84,7 @@ module _ (h : Ground) (r : ℕ) (w : Tested h r) where
       }
 
 -- What is out at each place is of such options.
-module _ (h : Ground) (tints marks : List ℕ) (r s np q : ℕ) (m : Item h tints marks r s np q) where
+module _ {h : Ground} {tints marks : List ℕ} {r s np q : ℕ} (m : Item h tints marks r s np q) where
   pub hit-out : {y : ℕ} → In y (out_at h r q) → Hit h r y
   hit-out {y} i =
       let o = m.stage.out y i in
@@ -96,23 +96,23 @@ module _ (h : Ground) (tints marks : List ℕ) (r s np q : ℕ) (m : Item h tint
 
   -- the item itself is another item of r
   item-among : In q (others h r)
-  item-among = others-In h m.test.tested.tidy r m.test.tested.entry (item-entry h tints marks r s np q m) (item-number h tints marks r s np q m) m.other m.full
+  item-among = others-In h m.test.tested.tidy r m.test.tested.entry (item-entry m) (item-number m) m.other m.full
 
   pub hit-rival : (k : ℕ) → rival_at (ground_at h r q) (h.plan.col q) (h.plan.tint q) k ≡ true → (y : ℕ) → h.plan.number y ≡ h.plan.number k → Hit h r y
-  hit-rival k c y e = record { at = k; clash = rival-clash h tints marks r s np q m k c item-among; number = e }
+  hit-rival k c y e = record { at = k; clash = rival-clash m k c item-among; number = e }
 
   pub hit-rivals : (k : ℕ) {y : ℕ} → In y (rivals_to h r q k) → Hit h r y
   hit-rivals k {y} i =
       let w = In-gather (rival_at (ground_at h r q) (h.plan.col q) (h.plan.tint q)) (ground_at h r q) k i in
-      hit-rival w.0 w.2 y (In-others (ground_at h r q) (ground-tidy h tints marks r s np q m) w.0 (rival-row h tints marks r s np q m w.0 w.2) w.3).1
+      hit-rival w.0 w.2 y (In-others (ground_at h r q) (ground-tidy m) w.0 (rival-row m w.0 w.2) w.3).1
 
   -- where a node left its column while the walk came to node nn of rival p
   module _ (p : ℕ) (c : rival_at (ground_at h r q) (h.plan.col q) (h.plan.tint q) p ≡ true) (nn : ℕ) (from : lo h.plan p ≤ nn) (till : nn ≤ hi h.plan p) where
     to-tidy : Tidy (ground_to h r q p)
-    to-tidy = after-tidy (ground_at h r q) (rivals_to h r q p) (ground-tidy h tints marks r s np q m) (rivals-fresh h tints marks r s np q m p)
+    to-tidy = after-tidy (ground_at h r q) (rivals_to h r q p) (ground-tidy m) (rivals-fresh m p)
 
     pub hit-walked : {y : ℕ} → In y (walked (ground_to h r q p) p nn) → Hit h r y
-    hit-walked {y} i = hit-rival p c y (In-walked (ground_to h r q p) to-tidy p (rival-row h tints marks r s np q m p c) nn (record { from = from; till = till }) i).1
+    hit-walked {y} i = hit-rival p c y (In-walked (ground_to h r q p) to-tidy p (rival-row m p c) nn (record { from = from; till = till }) i).1
 
     pub hit-gone : (y : ℕ) → h.on y ≡ true → (taken (ground_to h r q p) (walked (ground_to h r q p) p nn)).on y ≡ false → Hit h r y
     hit-gone y o n = first ((ground_at h r q).on y) refl

@@ -7,14 +7,17 @@ use mathlib.Core.Bool.{true}
 use mathlib.Core.List.{List, []}
 use lib.ListN.{length}
 use lib.IntN.{ℤ}
+use Rattle.std.specs.Prelude.{None, Some}
 use Rattle.links.specs.Head.{item_of, head}
 use Rattle.links.specs.Column.{at}
 use Rattle.links.specs.Plan.{EntryOf, Header}
 use Rattle.links.specs.Ground.{Ground, Tidy, taken, Holds}
 use Rattle.links.specs.Row.{walked}
 use Rattle.links.specs.Way.{way, reach}
+use Rattle.links.specs.Nodes.{item_in}
+use Rattle.links.proofs.Endings.{item_none, item_some}
 use Rattle.links.specs.Taking.{testing}
-use Rattle.links.proofs.Plans.{header-before, entry-till, row-till}
+use Rattle.links.proofs.Plans.{header-before}
 use Rattle.links.proofs.Rows.{At, walk_begins, walked_none}
 use Rattle.testing.specs.Forward.{Test, Stage, out_at, ground_at, Outer, Item, rivals_to, Middle}
 use Rattle.testing.proofs.After.{after-header}
@@ -23,9 +26,9 @@ use Rattle.testing.proofs.Forth as Forth
 use Rattle.testing.proofs.Stages.{stage-none, item-entry, ground-tidy}
 
 -- the place of the walk, and what is known there
-module _ (h : Ground) (tints marks : List ℕ) (r s np : ℕ) (heads : List ℤ) (up down : List ℕ) where
+module _ {h : Ground} {tints marks : List ℕ} {r s np : ℕ} {heads : List ℤ} {up down : List ℕ} where
   -- the walk begins at the node after r
-  pub outer-begins : Test h tints marks r s np → Holds h heads up down → Outer h tints marks r s np heads up down (r + 1)
+  pub outer-begins : Test h tints marks r s np → Holds h heads up down → Outer h tints marks r s np (r + 1) heads up down
   outer-begins w l =
       let b = walk_begins h w.tested.tidy r w.tested.entry in
       let n = walked_none h w.tested.tidy r w.tested.entry in
@@ -38,29 +41,30 @@ module _ (h : Ground) (tints marks : List ℕ) (r s np : ℕ) (heads : List ℤ)
         holds = subst (λ (qs : List ℕ). Holds (taken h (testing h qs)) heads up down) (sym n) l;
       }
 
-  module _ (q : ℕ) (m : Outer h tints marks r s np heads up down q) where
+  module _ {q : ℕ} (m : Outer h tints marks r s np q heads up down) where
     t : Tidy h
     t = m.test.tested.tidy
 
     e : EntryOf h.plan r
     e = m.test.tested.entry
 
+    -- it is within the lists
     pub outer-in : (q < length heads) × (q < length up)
     outer-in = Forth.forth-in h (out_at h r q) t m.stage.fresh r e heads up down m.holds q m.from m.till
 
-    pub outer-fits : q < 1048576
-    outer-fits = omega (arith, m.till, row-till h.plan t.planned r e, t.planned.small)
-
     module _ (d : q ≢ r) where
-      -- over a head of 0
-      module _ (z : item_of (head heads q) ≡ 0) where
+      -- over a head without an item
+      module _ (none : None ≡ item_in (head heads q)) where
+        no_item : item_of (head heads q) ≡ 0
+        no_item = item_none (head heads q) none
+
         on-at : At h r (at up q)
-        on-at = Forth.over-at h (out_at h r q) t m.stage.fresh r e heads up down m.holds q m.from m.till d z
+        on-at = Forth.over-at h (out_at h r q) t m.stage.fresh r e heads up down m.holds q m.from m.till d no_item
 
         same-walked : walked h r q ≡ walked h r (at up q)
-        same-walked = sym (Forth.over-walked h (out_at h r q) t m.stage.fresh r e heads up down m.holds q m.from m.till d z)
+        same-walked = sym (Forth.over-walked h (out_at h r q) t m.stage.fresh r e heads up down m.holds q m.from m.till d no_item)
 
-        pub outer-over : Outer h tints marks r s np heads up down (at up q)
+        pub outer-over : Outer h tints marks r s np (at up q) heads up down
         outer-over = record {
           test = m.test;
           from = on-at.from;
@@ -71,39 +75,36 @@ module _ (h : Ground) (tints marks : List ℕ) (r s np : ℕ) (heads : List ℤ)
         }
 
         pub outer-over-way : (n : ℕ) → length heads ≡ n → way n r (at up q) < way n r q
-        outer-over-way = Forth.over-way h (out_at h r q) t m.stage.fresh r e heads up down m.holds q m.from m.till d z
+        outer-over-way = Forth.over-way h (out_at h r q) t m.stage.fresh r e heads up down m.holds q m.from m.till d no_item
 
-      pub outer-way : (n : ℕ) → length heads ≡ n → way n r (q + 1) < way n r q
-      outer-way = Forth.full-way h (out_at h r q) t m.stage.fresh r e heads up down m.holds q m.from m.till d
+      -- at an entry of column i, which is entered
+      module _ {i : ℕ} (some : Some i ≡ item_in (head heads q)) where
+        an_item : item_of (head heads q) ≢ 0
+        an_item e = omega (arith, e, (item_some (head heads q) i some).1)
 
-      -- at an entry: its column is entered
-      module _ (z : item_of (head heads q) ≢ 0) where
         pub outer-item : Item h tints marks r s np q
         outer-item = record {
           test = m.test;
           from = m.from;
-          till = Forth.full-inside h (out_at h r q) t m.stage.fresh r e heads up down m.holds q m.from m.till d z;
+          till = Forth.full-inside h (out_at h r q) t m.stage.fresh r e heads up down m.holds q m.from m.till d an_item;
           other = d;
-          full = Forth.full-head h (out_at h r q) t m.stage.fresh r e heads up down m.holds q m.from m.till d z;
+          full = Forth.full-head h (out_at h r q) t m.stage.fresh r e heads up down m.holds q m.from m.till d an_item;
           stage = m.stage;
         }
 
-        item-is : item_of (head heads q) ≡ h.plan.col q
-        item-is = Forth.full-col h (out_at h r q) t m.stage.fresh r e heads up down m.holds q m.from m.till d z
+        item-is : i ≡ h.plan.col q
+        item-is = sym (item_some (head heads q) i some).0 ∙ Forth.full-col h (out_at h r q) t m.stage.fresh r e heads up down m.holds q m.from m.till d an_item
 
         entry : EntryOf h.plan q
-        entry = item-entry h tints marks r s np q outer-item
+        entry = item-entry outer-item
 
         header : Header h.plan (h.plan.col q)
         header = t.planned.entry q entry
 
-        pub outer-tint : q < length tints
-        outer-tint = omega (arith, entry-till h.plan t.planned q entry, m.test.tinted.room)
-
         g-tidy : Tidy (ground_at h r q)
-        g-tidy = ground-tidy h tints marks r s np q outer-item
+        g-tidy = ground-tidy outer-item
 
-        pub outer-link : item_of (head heads q) < length down
+        pub outer-link : i < length down
         outer-link = rw (item-is, m.holds.down-are) (omega (arith, header-before h.plan t.planned (h.plan.col q) header, t.planned.room, g-tidy.ring.downs))
 
         header-on : (ground_at h r q).on (h.plan.col q) ≡ true
@@ -115,8 +116,8 @@ module _ (h : Ground) (tints marks : List ℕ) (r s np : ℕ) (heads : List ℤ)
         still : (y : ℕ) → h.plan.col y ≡ h.plan.col q → (taken (ground_at h r q) []).on y ≡ (ground_at h r q).on y
         still y c = refl
 
-        pub enter : (p : ℕ) → p ≡ at down (item_of (head heads q)) → Middle h tints marks r s np heads up down q p
-        enter p a =
+        pub enter : {p : ℕ} → p ≡ at down i → Middle h tints marks r s np q p heads up down
+        enter {p} a =
             let b : p ≡ at (taken (ground_at h r q) []).down (h.plan.col q) = a ∙ ap (at down) item-is ∙ ap (λ (v : List ℕ). at v (h.plan.col q)) m.holds.down-are in
             record {
               item = outer-item;

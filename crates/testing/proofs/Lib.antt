@@ -13,4 +13,3 @@ pub mod Restoring
 pub mod Backwards
 pub mod Upwards
 pub mod Round
-pub mod Asking

@@ -60,8 +60,8 @@ stops→ heads marks i r np e =
     let b = (and-eq-true_iff (eqb (item_of (head heads i) - 1) 0) (leb i np)).0 a.0 in
     (eqb-true (item_of (head heads i) - 1) 0 b.0, leb-true i np b.1, eqb-false (at marks i) r (not-true (eqb (at marks i) r) a.1))
 
-module _ (h : Ground) (tints marks : List ℕ) (r s np : ℕ) (heads : List ℤ) (up down : List ℕ) (q p qq : ℕ) (m : Stopped h tints marks r s np heads up down q p qq) where
-  I : Inner h tints marks r s np heads up down q p qq
+module _ {h : Ground} {tints marks : List ℕ} {r s np : ℕ} {heads : List ℤ} {up down : List ℕ} {q p qq : ℕ} (m : Stopped h tints marks r s np q p qq heads up down) where
+  I : Inner h tints marks r s np q p qq heads up down
   I = m.inner
 
   w : Tested h r
@@ -78,16 +78,16 @@ module _ (h : Ground) (tints marks : List ℕ) (r s np : ℕ) (heads : List ℤ)
   last = after (ground_to h r q p) (walked (ground_to h r q p) p qq)
 
   last-tidy : Tidy last
-  last-tidy = after-tidy (ground_to h r q p) (walked (ground_to h r q p) p qq) (to-tidy h tints marks r s np heads up down q p qq I) I.fresh
+  last-tidy = after-tidy (ground_to h r q p) (walked (ground_to h r q p) p qq) (to-tidy I) I.fresh
 
   entry : EntryOf h.plan qq
-  entry = inner-entry h tints marks r s np heads up down q p qq I m.other m.full
+  entry = inner-entry I m.other m.full
 
   within : Within last qq
-  within = inner-within h tints marks r s np heads up down q p qq I m.other m.full
+  within = inner-within I m.other m.full
 
   facts : (item_of (head heads i) - 1 ≡ 0) × (i ≤ np) × (at marks i ≢ r)
-  facts = stops→ heads marks i r np (subst (λ (j : ℕ). stops_at heads marks j r np ≡ true) (inner-col h tints marks r s np heads up down q p qq I m.other m.full) m.stops)
+  facts = stops→ heads marks i r np (subst (λ (j : ℕ). stops_at heads marks j r np ≡ true) (inner-col I m.other m.full) m.stops)
 
   length-one : tally h.plan last.on i ≡ 1
   length-one =
@@ -102,7 +102,7 @@ module _ (h : Ground) (tints marks : List ℕ) (r s np : ℕ) (heads : List ℤ)
       (entry-from h.plan t.planned y e) (entry-till h.plan t.planned y e) o c
 
   own-hit : Hit h r qq
-  own-hit = hit-rival h tints marks r s np q I.item p I.rival qq (inner-number h tints marks r s np heads up down q p qq I m.other m.full)
+  own-hit = hit-rival I.item p I.rival qq (inner-number I m.other m.full)
 
   -- r does not hold its item: it would carry r's mark, or r be left in the column beside qq
   not-held : (z : ℕ) → In z (span (lo h.plan r) (hi h.plan r)) → T (not (holds_at h r i z))
@@ -113,7 +113,7 @@ module _ (h : Ground) (tints marks : List ℕ) (r s np : ℕ) (heads : List ℤ)
 
       own : h.plan.col z ≡ i → z ≡ r → ⊥
       own c e =
-          let o = own-stays h tints marks r s np q I.item p I.rival qq I.from I.till r w.on refl in
+          let o = own-stays I.item p I.rival qq I.from I.till r w.on refl in
           hit-foreign h r w qq own-hit (ap h.plan.number (sym (alone r w.entry o (ap h.plan.col (sym e) ∙ c))))
 
       other : T (full h.heads z) → h.plan.col z ≡ i → z ≢ r → ⊥
@@ -127,7 +127,7 @@ module _ (h : Ground) (tints marks : List ℕ) (r s np : ℕ) (heads : List ℤ)
     where
       go : h.on y ≡ true → h.plan.col y ≡ i → start h.plan ≤ y → (b : Bool) → last.on y ≡ b → Hit h r y
       go o c a true e = subst (λ (j : ℕ). Hit h r j) (sym (alone y (on-entry h t y o a) e c)) own-hit
-      go o c a false e = hit-gone h tints marks r s np q I.item p I.rival qq I.from I.till y o e
+      go o c a false e = hit-gone I.item p I.rival qq I.from I.till y o e
 
   here_on : h.on qq ≡ true
   here_on =
@@ -150,7 +150,7 @@ module _ (h : Ground) (tints marks : List ℕ) (r s np : ℕ) (heads : List ℤ)
   stopped-blocked = T_true (any (shut_at h r) (from 1 np)) (any← (shut_at h r) (from 1 np) (from-In 1 np (t.planned.entry qq entry).above (omega (arith, facts.1))) shut)
 
 -- The walk came round.
-module _ (h : Ground) (tints marks : List ℕ) (r s np : ℕ) (heads : List ℤ) (up down : List ℕ) (m : Outer h tints marks r s np heads up down r) where
+module _ {h : Ground} {tints marks : List ℕ} {r s np : ℕ} {heads : List ℤ} {up down : List ℕ} (m : Outer h tints marks r s np r heads up down) where
   tested : Tested h r
   tested = m.test.tested
 

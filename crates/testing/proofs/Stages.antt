@@ -39,7 +39,7 @@ out-more : {h : Ground} (qs rs xs ys : List ℕ) {y : ℕ} → Out h qs xs y →
 out-more qs rs xs ys o = record { met = o.met; clash = clash-more qs rs o.clash; one = o.one; all = λ z m. In-append-l ys (o.all z m) }
 
 -- An item q of r, and the ground when the walk came to it.
-module _ (h : Ground) (tints marks : List ℕ) (r s np q : ℕ) (m : Item h tints marks r s np q) where
+module _ {h : Ground} {tints marks : List ℕ} {r s np q : ℕ} (m : Item h tints marks r s np q) where
   t : Tidy h
   t = m.test.tested.tidy
 

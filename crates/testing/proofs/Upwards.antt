@@ -21,11 +21,21 @@ use Rattle.links.proofs.Rows.{back-begins, back-begun}
 use Rattle.links.proofs.Gathering.{gather-one, gather_none}
 use Rattle.links.proofs.Descending.{on-entry}
 use Rattle.testing.specs.Undo.{after, Half, rivals_up_to, Below}
-use Rattle.testing.proofs.After.{after-tidy, after_more, after-others, fresh-after}
+use Rattle.testing.proofs.After.{after-tidy, after_more, after-others, fresh-after, held}
 use Rattle.testing.proofs.Columns.{rival→, rival←, column-same, none-gathered, up-col, up-on, up-falls, up-gathered, last-gathered}
 
+-- A walk up a column has put p's option back, and not gone on yet: the rivals above p are out still.
+pub record Above (g : Ground) (tints : List ℕ) (p x s : ℕ) (heads : List ℤ) (up down : List ℕ) : Type 0 where
+  pub tidy : Tidy g
+  pub tinted : Tinted g.plan tints
+  pub starts : s ≡ start g.plan
+  pub on : g.on p ≡ true
+  pub entry : EntryOf g.plan p
+  pub fresh : Fresh g (gather_to (rival_at g (g.plan.col p) x) g p)
+  pub holds : Holds (taken g (gather_to (rival_at g (g.plan.col p) x) g p)) heads up down
+
 -- At an entry p of a column of g, of which the rivals above p are out: after p itself is put back, the step up.
-module _ (g : Ground) (tints : List ℕ) (p x s : ℕ) (heads : List ℤ) (up down : List ℕ) (m : Below g tints p x s heads up down) where
+module _ {g : Ground} {tints : List ℕ} {p x s : ℕ} {heads : List ℤ} {up down : List ℕ} (m : Below g tints p x s heads up down) where
   abbrev rival_here : ℕ → Bool
   rival_here = rival_at g (g.plan.col p) x
 
@@ -38,9 +48,6 @@ module _ (g : Ground) (tints : List ℕ) (p x s : ℕ) (heads : List ℤ) (up do
 
     pub below-tint : p < length tints
     below-tint = omega (arith, entry-till g.plan m.tidy.planned p below-entry, m.tinted.room)
-
-    pub below-some : 0 < p
-    below-some = omega (arith, m.starts)
 
     -- p clashes: the walk round it is undone
     module _ (b : not (agree x (at tints p)) ≡ true) where
@@ -76,50 +83,73 @@ module _ (g : Ground) (tints : List ℕ) (p x s : ℕ) (heads : List ℤ) (up do
                 (subst (λ (G : Ground). Holds G heads up down) (ap (taken g) split ∙ sym (after_more g (gather_to rival_here g p) (others g p))) m.holds);
           }
 
-      pub clash-fresh : Fresh g (gather_to (rival_at g (g.plan.col p) x) g p)
-      clash-fresh = fresh-before
+      -- p's option is whole again
+      pub clash-above : {heads' : List ℤ} {up' down' : List ℕ} → Holds (after g (gather_to (rival_at g (g.plan.col p) x) g p)) heads' up' down'
+          → Above g tints p x s heads' up' down'
+      clash-above l = record {
+        tidy = m.tidy;
+        tinted = m.tinted;
+        starts = m.starts;
+        on = m.on;
+        entry = below-entry;
+        fresh = fresh-before;
+        holds = held g (gather_to rival_here g p) l;
+      }
 
     -- p agrees: nothing was taken there
     module _ (b : not (agree x (at tints p)) ≡ false) where
       agrees : rival_here p ≡ false
       agrees = not_so (rival_here p) (λ e. false≢true (sym (rival→ g (g.plan.col p) x p e).3 ∙ ap (agree x) (sym (m.tinted.tint p below-entry)) ∙ not-false (agree x (at tints p)) b))
 
-      pub agree-holds : Holds (taken g (gather_to (rival_at g (g.plan.col p) x) g p)) heads up down
-      agree-holds = subst (λ (xs : List ℕ). Holds (taken g xs) heads up down) (gather_none rival_here g p agrees) m.holds
+      pub agree-above : Above g tints p x s heads up down
+      agree-above = record {
+        tidy = m.tidy;
+        tinted = m.tinted;
+        starts = m.starts;
+        on = m.on;
+        entry = below-entry;
+        fresh = subst (λ (xs : List ℕ). Fresh g xs) (gather_none rival_here g p agrees) m.fresh;
+        holds = subst (λ (xs : List ℕ). Holds (taken g xs) heads up down) (gather_none rival_here g p agrees) m.holds;
+      }
 
-      pub agree_fresh : Fresh g (gather_to (rival_at g (g.plan.col p) x) g p)
-      agree_fresh = subst (λ (xs : List ℕ). Fresh g xs) (gather_none rival_here g p agrees) m.fresh
-
--- The step up from an entry p.
-module _ (g : Ground) (tints : List ℕ) (p x s : ℕ) (t : Tidy g) (o : g.on p ≡ true) (e : EntryOf g.plan p) (f : Fresh g (gather_to (rival_at g (g.plan.col p) x) g p)) (heads : List ℤ) (up down : List ℕ)
-    (l : Holds (taken g (gather_to (rival_at g (g.plan.col p) x) g p)) heads up down) where
+-- The step up from there.
+module _ {g : Ground} {tints : List ℕ} {p x s : ℕ} {heads : List ℤ} {up down : List ℕ} (m : Above g tints p x s heads up down) where
   abbrev above : List ℕ
   above = gather_to (rival_at g (g.plan.col p) x) g p
 
   now-tidy : Tidy (after g above)
-  now-tidy = after-tidy g above t f
+  now-tidy = after-tidy g above m.tidy m.fresh
+
+  header : Header g.plan (g.plan.col p)
+  header = m.tidy.planned.entry p m.entry
+
+  still : (y : ℕ) → g.plan.col y ≡ g.plan.col p → (taken g above).on y ≡ g.on y
+  still = column-same g m.tidy (g.plan.col p) x p
 
   pub link-in : p < length up
-  link-in = rw l.up-are (omega (arith, entry-till g.plan t.planned p e, now-tidy.ring.ups))
+  link-in = rw m.holds.up-are (omega (arith, entry-till g.plan m.tidy.planned p m.entry, now-tidy.ring.ups))
 
-  pub link-falls : at up p < p
-  link-falls = rw l.up-are (up-falls g t (g.plan.col p) x (t.planned.entry p e) above now-tidy (column-same g t (g.plan.col p) x p) p o refl e)
+  pub link-falls : {u : ℕ} → u ≡ at up p → u < p
+  link-falls a = rw (a, m.holds.up-are) (up-falls g m.tidy (g.plan.col p) x header above now-tidy still p m.on refl m.entry)
 
   same-list : above ≡ rivals_up_to g x (at up p)
   same-list =
-      up-gathered g t (g.plan.col p) x (t.planned.entry p e) above now-tidy (column-same g t (g.plan.col p) x p) p o refl e
-      ∙ ap (λ (u : List ℕ). gather_to (rival_at g (g.plan.col p) x) g (at u p + 1)) (sym l.up-are)
-      ∙ ap (λ (i : ℕ). gather_to (rival_at g i x) g (at up p + 1)) (sym (ap (λ (u : List ℕ). g.plan.col (at u p)) l.up-are ∙ up-col g t (g.plan.col p) x (t.planned.entry p e) above now-tidy (column-same g t (g.plan.col p) x p) p o refl))
+      up-gathered g m.tidy (g.plan.col p) x header above now-tidy still p m.on refl m.entry
+      ∙ ap (λ (u : List ℕ). gather_to (rival_at g (g.plan.col p) x) g (at u p + 1)) (sym m.holds.up-are)
+      ∙ ap (λ (i : ℕ). gather_to (rival_at g i x) g (at up p + 1)) (sym (ap (λ (u : List ℕ). g.plan.col (at u p)) m.holds.up-are ∙ up-col g m.tidy (g.plan.col p) x header above now-tidy still p m.on refl))
 
-  pub step-up : Tinted g.plan tints → s ≡ start g.plan → Below g tints (at up p) x s heads up down
-  step-up w q = record {
-    tidy = t;
-    tinted = w;
-    starts = q;
-    on = rw l.up-are (up-on g t (g.plan.col p) x (t.planned.entry p e) above now-tidy (column-same g t (g.plan.col p) x p) p o refl);
-    fresh = subst (λ (xs : List ℕ). Fresh g xs) same-list f;
-    holds = subst (λ (xs : List ℕ). Holds (taken g xs) heads up down) same-list l;
+  stepped : Below g tints (at up p) x s heads up down
+  stepped = record {
+    tidy = m.tidy;
+    tinted = m.tinted;
+    starts = m.starts;
+    on = rw m.holds.up-are (up-on g m.tidy (g.plan.col p) x header above now-tidy still p m.on refl);
+    fresh = subst (λ (xs : List ℕ). Fresh g xs) same-list m.fresh;
+    holds = subst (λ (xs : List ℕ). Holds (taken g xs) heads up down) same-list m.holds;
   }
+
+  pub step-up : {u : ℕ} → u ≡ at up p → Below g tints u x s heads up down
+  step-up a = subst (λ (j : ℕ). Below g tints j x s heads up down) (sym a) stepped
 
 -- From the header i the link up leads to the lowest node of a column of which all rivals are out.
 module _ (g : Ground) (tints : List ℕ) (i x s : ℕ) (t : Tidy g) (head_of : Header g.plan i) (o : g.on i ≡ true) (f : Fresh g (gather_to (rival_at g i x) g g.plan.N)) (heads : List ℤ) (up down : List ℕ)
@@ -133,21 +163,21 @@ module _ (g : Ground) (tints : List ℕ) (i x s : ℕ) (t : Tidy g) (head_of : H
   col-is : g.plan.col i ≡ i
   col-is = t.planned.header i head_of
 
-  still : (y : ℕ) → g.plan.col y ≡ i → (taken g all).on y ≡ g.on y
-  still = column-same g t i x g.plan.N
+  all-still : (y : ℕ) → g.plan.col y ≡ i → (taken g all).on y ≡ g.on y
+  all-still = column-same g t i x g.plan.N
 
   lowest-on : g.on (at up i) ≡ true
-  lowest-on = rw l.up-are (up-on g t i x head_of all all-tidy still i o col-is)
+  lowest-on = rw l.up-are (up-on g t i x head_of all all-tidy all-still i o col-is)
 
   lowest-col : g.plan.col (at up i) ≡ i
-  lowest-col = rw l.up-are (up-col g t i x head_of all all-tidy still i o col-is)
+  lowest-col = rw l.up-are (up-col g t i x head_of all all-tidy all-still i o col-is)
 
   -- it is the last: below it is the header again
   leads-back : at (taken g all).down (at up i) ≡ i
-  leads-back = rw l.up-are (all-tidy.ring.tied i (still i col-is ∙ o)).above_down
+  leads-back = rw l.up-are (all-tidy.ring.tied i (all-still i col-is ∙ o)).above_down
 
   whole-column : all ≡ rivals_up_to g x (at up i)
-  whole-column = last-gathered g t i x head_of all all-tidy still (at up i) lowest-on lowest-col leads-back ∙ ap (λ (j : ℕ). gather_to (rival_at g j x) g (at up i + 1)) (sym lowest-col)
+  whole-column = last-gathered g t i x head_of all all-tidy all-still (at up i) lowest-on lowest-col leads-back ∙ ap (λ (j : ℕ). gather_to (rival_at g j x) g (at up i + 1)) (sym lowest-col)
 
   pub header-in : i < length up
   header-in = rw l.up-are (omega (arith, header-before g.plan t.planned i head_of, t.planned.room, all-tidy.ring.ups))

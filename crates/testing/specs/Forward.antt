@@ -55,7 +55,7 @@ abbrev pub ground_at : Ground → ℕ → ℕ → Ground
 ground_at h r q = after h (out_at h r q)
 
 -- At the item of q.
-pub record Outer (h : Ground) (tints marks : List ℕ) (r s np : ℕ) (heads : List ℤ) (up down : List ℕ) (q : ℕ) : Type 0 where
+pub record Outer (h : Ground) (tints marks : List ℕ) (r s np q : ℕ) (heads : List ℤ) (up down : List ℕ) : Type 0 where
   pub test : Test h tints marks r s np
   pub from : lo h.plan r ≤ q
   pub till : q ≤ hi h.plan r
@@ -81,7 +81,7 @@ abbrev pub ground_to : Ground → ℕ → ℕ → ℕ → Ground
 ground_to h r q k = after (ground_at h r q) (rivals_to h r q k)
 
 -- At node p of q's column.
-pub record Middle (h : Ground) (tints marks : List ℕ) (r s np : ℕ) (heads : List ℤ) (up down : List ℕ) (q p : ℕ) : Type 0 where
+pub record Middle (h : Ground) (tints marks : List ℕ) (r s np q p : ℕ) (heads : List ℤ) (up down : List ℕ) : Type 0 where
   pub item : Item h tints marks r s np q
   pub on : (ground_at h r q).on p ≡ true
   pub col : h.plan.col p ≡ h.plan.col q
@@ -89,7 +89,7 @@ pub record Middle (h : Ground) (tints marks : List ℕ) (r s np : ℕ) (heads : 
   pub holds : Holds (taken (ground_at h r q) (rivals_to h r q (reach h.plan p))) heads up down
 
 -- At node qq of the rival p.
-pub record Inner (h : Ground) (tints marks : List ℕ) (r s np : ℕ) (heads : List ℤ) (up down : List ℕ) (q p qq : ℕ) : Type 0 where
+pub record Inner (h : Ground) (tints marks : List ℕ) (r s np q p qq : ℕ) (heads : List ℤ) (up down : List ℕ) : Type 0 where
   pub item : Item h tints marks r s np q
   pub rival : rival_at (ground_at h r q) (h.plan.col q) (h.plan.tint q) p ≡ true
   pub from : lo h.plan p ≤ qq
@@ -99,8 +99,8 @@ pub record Inner (h : Ground) (tints marks : List ℕ) (r s np : ℕ) (heads : L
   pub holds : Holds (taken (ground_to h r q p) (walked (ground_to h r q p) p qq)) heads up down
 
 -- There the walk breaks off.
-pub record Stopped (h : Ground) (tints marks : List ℕ) (r s np : ℕ) (heads : List ℤ) (up down : List ℕ) (q p qq : ℕ) : Type 0 where
-  pub inner : Inner h tints marks r s np heads up down q p qq
+pub record Stopped (h : Ground) (tints marks : List ℕ) (r s np q p qq : ℕ) (heads : List ℤ) (up down : List ℕ) : Type 0 where
+  pub inner : Inner h tints marks r s np q p qq heads up down
   pub other : qq ≢ p
   pub full : item_of (head heads qq) ≢ 0
   pub stops : stops_at heads marks (item_of (head heads qq)) r np ≡ true

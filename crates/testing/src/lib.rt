@@ -2,7 +2,7 @@
 // `pass_2`, `unhide_entries`). The walk forwards takes the rivals' other entries out of their columns, item by item of the tested option,
 // and breaks off before a primary item that the option does not hold would be emptied; the undoing puts all back in reverse order.
 //
-// Each function has a `requires` on what the lists hold, and none is a public call.
+// Each function but `clash` has a `requires` on what the lists hold, and none is a public call.
 #![tactic(auto)]
 
 pub mod backup;

@@ -1,19 +1,10 @@
 // What the walks ask of two colours, and of a column that is about to lose an entry.
-ghost use Rattle.std.specs.Prelude.{◌≡◌, not, ℕ, ◌<◌, length, ℤ};
+ghost use Rattle.std.specs.Prelude.{◌≡◌, not, ℕ, ◌<◌, length};
 ghost use Rattle.rules.specs.Blocked.{agree};
 ghost use Rattle.links.specs.Head.{item_of, head};
-ghost use Rattle.links.specs.Column.{at};
 ghost use Rattle.testing.specs.Stops.{stops_at};
 
-use links::head::item_at;
-
-// The colour of node x.
-pub fn tint_at(tints: &[u32], x: usize) -> u32
-    requires { x < length tints.now }
-    ensures { result ≡ at tints.now x }
-{
-    tints[x]
-}
+use links::nodes::Nodes;
 
 // Two entries of one item clash unless they have one equal colour above 0.
 pub fn clash(x: u32, y: u32) -> bool
@@ -23,10 +14,10 @@ pub fn clash(x: u32, y: u32) -> bool
 }
 
 // Would one entry less empty column i, of a primary item that carries no mark of r?
-pub fn stops(heads: &[i32], marks: &[u32], i: usize, r: usize, np: usize) -> bool
-    requires { (i < length heads.now) × (i < length marks.now) × (0 < item_of (head heads.now i)) }
-    ensures { result ≡ stops_at heads.now marks.now i r np }
+pub fn stops(nodes: &Nodes, marks: &[u32], i: usize, r: usize) -> bool
+    requires { (i < length nodes.now.heads.now) × (i < length marks.now) × (0 < item_of (head nodes.now.heads.now i)) }
+    ensures { result ≡ stops_at nodes.now.heads.now marks.now i r nodes.now.np }
 {
-    let t = item_at(heads, i) - 1;
-    t == 0 && i <= np && marks[i] as usize != r
+    // the head as it lies there: it is compared alone, and no number is made of it
+    nodes.heads[i] == 1 && i <= nodes.np && marks[i] as usize != r
 }

@@ -16,22 +16,7 @@ use Rattle.words.proofs.Counting.{even, length-bytes}
 abbrev pub Below : ℕ → List ℕ → Type 0
 Below m l = (k : ℕ) → get_or l k 0 < m
 
--- A number, by its four bytes, ..
-pub number-at : (l : List ℕ) (k : ℕ) → k < length (numbers_of l)
-    → get_or (numbers_of l) k 0 ≡ number_of (get_or l (4 * k) 0) (get_or l (4 * k + 1) 0) (get_or l (4 * k + 2) 0) (get_or l (4 * k + 3) 0)
-number-at [] k h = absurd (omega arith)
-number-at (a ∷ []) k h = absurd (omega arith)
-number-at (a ∷ b ∷ []) k h = absurd (omega arith)
-number-at (a ∷ b ∷ c ∷ []) k h = absurd (omega arith)
-number-at (a ∷ b ∷ c ∷ d ∷ l) zero h = refl
-number-at (a ∷ b ∷ c ∷ d ∷ l) (suc k) h =
-    let e : 4 * suc k ≡ suc (suc (suc (suc (4 * k)))) = omega arith in
-    let e₁ : 4 * suc k + 1 ≡ suc (suc (suc (suc (4 * k + 1)))) = omega arith in
-    let e₂ : 4 * suc k + 2 ≡ suc (suc (suc (suc (4 * k + 2)))) = omega arith in
-    let e₃ : 4 * suc k + 3 ≡ suc (suc (suc (suc (4 * k + 3)))) = omega arith in
-    rw (e₁, e₂, e₃, e) (number-at l k (omega arith))
-
--- .. is below 2 ^ 32.
+-- A number, by its four bytes, is below 2 ^ 32.
 pub number_small : (a b c d : ℕ) → a < 256 → b < 256 → c < 256 → d < 256 → number_of a b c d < 4294967296
 number_small a b c d p q r s = omega arith
 

@@ -1,11 +1,8 @@
 -- At place k the first k numbers are written.
-use Rattle.std.proofs.Common.{◌≡◌, ◌≤◌, ◌-◌, length, take}
+use Rattle.std.proofs.Common.{◌≡◌, length, take}
 use Rattle.rules.specs.Lists.{written}
 use Rattle.words.specs.Bytes.{numbers_of}
 use Rattle.words.proofs.read_words.Given as goal
 
 abbrev pub invariant-loop-k : goal.invariant-loop-k
-invariant-loop-k l = (l.k ≤ l.n) × (length l.out ≡ length l.initial.out) × (l.out ≡ written (take l.k (numbers_of l.bytes)) l.initial.out)
-
-abbrev pub decreases-loop-k : goal.decreases-loop-k
-decreases-loop-k l = l.n - l.k
+invariant-loop-k l = (length l.out ≡ length l.initial.out) × (l.out ≡ written (take l.k (numbers_of l.bytes)) l.initial.out)

@@ -1,16 +1,16 @@
 -- `checking::ends::check_ends` meets its contract: the options below k have passed. Assumes nothing.
-use Rattle.std.proofs.Common.{sym}
-use Rattle.checking.proofs.EndByEnd.{end-bad, end-missed, ends-passed}
+use Rattle.std.proofs.Common.{refl, sym}
+use Rattle.checking.proofs.EndByEnd.{end-bad, ends-done}
+use Rattle.checking.proofs.Telling.{handed-on}
 use Rattle.checking.proofs.ends.check_ends.Goals as goal
 
-pub returns-then-end-before : goal.returns-then-end-before
-returns-then-end-before c =
-    let l = c.loop-k in sym (end-bad c.args.entries c.args.ends.now l.k l.before l.last l.invariant c.loop-k-test.true c.if-end-before.true)
-
-pub returns-then-before-entries : goal.returns-then-before-entries
-returns-then-before-entries c =
-    let l = c.loop-k in sym (end-missed c.args.entries c.args.ends.now l.k l.before l.last l.invariant c.loop-k-test.false c.if-before-entries.true)
+pub returns-in_err-refuse_if : goal.returns-in_err-refuse_if
+returns-in_err-refuse_if c =
+    let l = c.loop-k in
+    handed-on _ _ c.from_residual.ensures.1 (sym (end-bad c.args.entries c.args.ends.now l.k l.before l.invariant c.loop-k-test.true _ (sym c.in_err-refuse_if.ensures.refused)))
 
 pub returns : goal.returns
 returns c =
-    let l = c.loop-k in sym (ends-passed c.args.entries c.args.ends.now l.k l.before l.last l.invariant c.loop-k-test.false c.if-before-entries.false)
+    let l = c.loop-k in
+    let e = ends-done c.args.entries c.args.ends.now l.k l.before l.invariant c.loop-k-test.false in
+    rw (e, c.refuse_if-2.ensures.refused, c.saturating_sub-last.ensures) refl

@@ -1,25 +1,24 @@
 -- `checking::entries::check_entries` meets its contract: the options below k have passed. Assumes nothing.
-use Rattle.std.proofs.Common.{refl, ◌∙◌, ap, sym, arith}
+use Rattle.std.proofs.Common.{refl, ◌∙◌, sym, arith}
 use lib.ListN.{replicate}
-use Rattle.checking.specs.Checked.{refusal_in}
 use Rattle.checking.proofs.OptionByOption.{unmarked, options-begin, option-within, options-next}
 use Rattle.checking.proofs.entries.check_entries.Goals as goal
 
 pub loop-k-init : goal.loop-k-init
 loop-k-init c =
     let g = c.args in
-    (refl, options-begin g.np g.n g.most g.items.now g.colours.now g.ends.now c.requires (replicate 1024 0) (unmarked 1024))
+    (refl, options-begin g.limits.np g.limits.n g.limits.colour g.items.now g.colours.now g.ends.now c.requires (replicate 1024 0) (unmarked 1024))
 
-pub check_option-found-requires-clause-n_in_bounds : goal.check_option-found-requires-clause-n_in_bounds
-check_option-found-requires-clause-n_in_bounds c =
+pub check_option-requires-clause-n_in_bounds : goal.check_option-requires-clause-n_in_bounds
+check_option-requires-clause-n_in_bounds c =
     let g = c.args in
     let l = c.loop-k in
-    let w = option-within g.np g.n g.most g.items.now g.colours.now g.ends.now c.requires l.marks l.k l.begin l.invariant.1 c.loop-k-test.true in
+    let w = option-within g.limits.np g.limits.n g.limits.colour g.items.now g.colours.now g.ends.now c.requires l.marks l.k l.begin l.invariant.1 c.loop-k-test.true in
     (omega (arith, l.invariant.0, c.requires.few-items), w.0, w.1, c.requires.lengths, omega (arith, w.1, c.requires.few-entries))
 
 pub loop-k-preserved : goal.loop-k-preserved
 loop-k-preserved c =
     let g = c.args in
     let l = c.loop-k in
-    let e = c.check_option-found.ensures in
-    (c.check_option-found.auto.marks ∙ l.invariant.0, options-next g.np g.n g.most g.items.now g.colours.now g.ends.now c.requires l.marks l.k l.begin l.invariant.1 c.loop-k-test.true _ e.marks (sym e.answer ∙ ap refusal_in c.in_default.is))
+    let e = c.in_ok-check_option.ensures in
+    (c.check_option.auto.marks ∙ l.invariant.0, options-next g.limits.np g.limits.n g.limits.colour g.items.now g.colours.now g.ends.now c.requires l.marks l.k l.begin l.invariant.1 c.loop-k-test.true _ e.marks (sym e.answer))

@@ -1,59 +1,61 @@
 -- `checking::refusal::refusal` meets its contract: each answer is that of the checks before it. Assumes nothing.
 use Rattle.std.proofs.Common.{◌∙◌, ap, sym, arith}
+use Rattle.rules.specs.Checks.{refuse}
 use Rattle.rules.specs.Sizing.{figures_of}
-use Rattle.checking.specs.Checked.{refusal_in}
 use Rattle.checking.proofs.Table.{sizes, at-sizes, at-ends, at_room, at_results, at-entries}
+use Rattle.checking.proofs.Telling.{handed-on}
 use Rattle.checking.proofs.refusal.refusal.Goals as goal
 
-pub returns-in-Refused : goal.returns-in-Refused
-returns-in-Refused c = λ cap room results L. sym (at-sizes (figures_of c.args.f) c.args.ragged _ _ (sym c.in-Refused.ensures))
+pub returns-in_err-within : goal.returns-in_err-within
+returns-in_err-within c = λ room results L. handed-on _ _ c.from_residual.ensures.1 (sym (at-sizes _ _ _ _ (sym c.in_err-within.ensures.refused)))
 
-pub check_ends-found-requires : goal.check_ends-found-requires
-check_ends-found-requires c =
-    let g = c.args in
-    let w = sizes (figures_of g.f) g.ragged g.np g.ns g.items.now g.colours.now g.ends.now _ (sym c.in_default.ensures) in
-    omega (arith, w.options, c.requires.1)
-
-pub returns-in-Refused-found : goal.returns-in-Refused-found
-returns-in-Refused-found c =
-    let q = ap refusal_in c.in-Refused-found.is in
-    λ cap room results L. q ∙ sym (at-ends (figures_of c.args.f) c.args.ragged _ _ (sym c.in_default.ensures) _ (sym c.check_ends-found.ensures ∙ q))
+pub returns-in_err-check_ends : goal.returns-in_err-check_ends
+returns-in_err-check_ends c =
+    λ room results L. handed-on _ _ c.from_residual-in_err-check_ends.ensures.1 (sym (at-ends _ _ _ (sym c.in_ok-within.ensures.refused) _ (sym c.in_err-check_ends.ensures)))
 
 pub overflow_add-n : goal.overflow_add-n
 overflow_add-n c =
     let g = c.args in
-    let w = sizes (figures_of g.f) g.ragged g.np g.ns g.items.now g.colours.now g.ends.now _ (sym c.in_default.ensures) in
+    let p = g.given.now in
+    let w = sizes (figures_of g.f) g.ragged p.np p.ns p.items.now p.colours.now p.ends.now (sym c.in_ok-within.ensures.refused) in
     omega (arith, w.items, c.requires.0)
 
-pub short_room-requires : goal.short_room-requires
-short_room-requires c =
+pub short_room-short-requires : goal.short_room-short-requires
+short_room-short-requires c =
     let g = c.args in
-    let w = sizes (figures_of g.f) g.ragged g.np g.ns g.items.now g.colours.now g.ends.now _ (sym c.in_default.ensures) in
+    let p = g.given.now in
+    let w = sizes (figures_of g.f) g.ragged p.np p.ns p.items.now p.colours.now p.ends.now (sym c.in_ok-within.ensures.refused) in
     omega (arith, w.items, w.options, w.entries, c.requires)
 
-pub returns-then-short_room : goal.returns-then-short_room
-returns-then-short_room c =
-    λ cap room results L.
-    sym (at_room (figures_of c.args.f) c.args.ragged _ _ (sym c.in_default.ensures) (sym c.in_default-found.ensures) (sym (c.short_room.ensures room results L) ∙ c.if-short_room.true))
+pub returns-in_err-refuse_if : goal.returns-in_err-refuse_if
+returns-in_err-refuse_if c =
+    λ room results L.
+    let t = c.in_err-refuse_if.ensures.refused ∙ ap (refuse 17 0) (c.short_room-short.ensures room results L) in
+    handed-on _ _ c.from_residual-in_err-refuse_if.ensures.1 (sym (at_room _ _ _ (sym c.in_ok-within.ensures.refused) (sym c.in_ok-check_ends.ensures) _ (sym t)))
 
-pub returns-then-short_results : goal.returns-then-short_results
-returns-then-short_results c =
-    λ cap room results L.
-    sym (at_results (figures_of c.args.f) c.args.ragged _ _ (sym c.in_default.ensures) (sym c.in_default-found.ensures) (sym (c.short_room.ensures room results L) ∙ c.if-short_room.false) (sym (c.short_results.ensures room results L) ∙ c.if-short_results.true))
+pub returns-in_err-refuse_if-2 : goal.returns-in_err-refuse_if-2
+returns-in_err-refuse_if-2 c =
+    λ room results L.
+    let t = c.in_ok-refuse_if.ensures.refused ∙ ap (refuse 17 0) (c.short_room-short.ensures room results L) in
+    let u = c.in_err-refuse_if-2.ensures.refused ∙ ap (refuse 18 0) (c.short_results-short.ensures room results L) in
+    handed-on _ _ c.from_residual-in_err-refuse_if-2.ensures.1 (sym (at_results _ _ _ (sym c.in_ok-within.ensures.refused) (sym c.in_ok-check_ends.ensures) (sym t) _ (sym u)))
 
 pub check_entries-requires : goal.check_entries-requires
 check_entries-requires c =
     let g = c.args in
-    let w = sizes (figures_of g.f) g.ragged g.np g.ns g.items.now g.colours.now g.ends.now _ (sym c.in_default.ensures) in
+    let p = g.given.now in
+    let w = sizes (figures_of g.f) g.ragged p.np p.ns p.items.now p.colours.now p.ends.now (sym c.in_ok-within.ensures.refused) in
     record {
       few-items = omega (arith, w.items, c.requires.0);
       few-options = omega (arith, w.options, c.requires.1);
       few-entries = omega (arith, w.entries, c.requires.2);
       lengths = w.lengths;
-      ends-rise = sym c.in_default-found.ensures;
+      ends-rise = sym c.in_ok-check_ends.ensures;
     }
 
 pub returns : goal.returns
 returns c =
-    λ cap room results L.
-    c.check_entries.ensures ∙ sym (at-entries (figures_of c.args.f) c.args.ragged _ _ (sym c.in_default.ensures) (sym c.in_default-found.ensures) (sym (c.short_room.ensures room results L) ∙ c.if-short_room.false) (sym (c.short_results.ensures room results L) ∙ c.if-short_results.false))
+    λ room results L.
+    let t = c.in_ok-refuse_if.ensures.refused ∙ ap (refuse 17 0) (c.short_room-short.ensures room results L) in
+    let u = c.in_ok-refuse_if-2.ensures.refused ∙ ap (refuse 18 0) (c.short_results-short.ensures room results L) in
+    c.check_entries.ensures ∙ sym (at-entries _ _ _ (sym c.in_ok-within.ensures.refused) (sym c.in_ok-check_ends.ensures) (sym t) (sym u))

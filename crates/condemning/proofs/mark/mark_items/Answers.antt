@@ -1,42 +1,51 @@
 -- `condemning::mark::mark_items` meets its contract: at each place the full entries passed are marked. Assumes nothing.
-use Rattle.std.proofs.Common.{◌∙◌, sym, arith}
-use Rattle.condemning.proofs.Marking.{mark-small, mark-in, mark-far, mark-place, mark-next, mark-done}
+use Rattle.std.proofs.Common.{◌≡◌, ◌≢◌, ◌∙◌, sym, arith, false}
+use Rattle.links.specs.Head.{item_of, below_zero, head}
+use Rattle.links.proofs.Endings.{option_is, item_none, item_some}
+use Rattle.condemning.proofs.Marking.{mark-in, mark-far, mark-place, mark-low, mark-over, mark-full, mark-done}
 use Rattle.condemning.proofs.mark.mark_items.Goals as goal
+use Rattle.condemning.proofs.mark.mark_items.Goals.{After-item, In-Some, in-Some, in-None}
 
-pub is_boundary-requires : goal.is_boundary-requires
-is_boundary-requires c =
-    let p = c.requires.2 in
-    mark-in c.requires.0 c.requires.1 c.args.r c.args.heads.now c.args.marks.now p c.loop-marks.marks c.loop-marks.q (c.loop-marks.invariant c.requires.0 c.requires.1 p)
+-- where the walk goes on: its place is no boundary; and the item there, if there is one
+inside : (c : After-item) → below_zero (head c.args.nodes.now.heads.now c.loop-i.q) ≡ false
+inside c = sym (option_is _ c.option.ensures) ∙ c.loop-i-test.ensures
 
-pub item_at-requires : goal.item_at-requires
-item_at-requires c =
-    let p = c.requires.2 in
-    mark-in c.requires.0 c.requires.1 c.args.r c.args.heads.now c.args.marks.now p c.loop-marks.marks c.loop-marks.q (c.loop-marks.invariant c.requires.0 c.requires.1 p)
+some : (c : In-Some) → (item_of (head c.args.nodes.now.heads.now c.loop-i.q) ≡ c.in-Some.i) × (item_of (head c.args.nodes.now.heads.now c.loop-i.q) ≢ 0)
+some c = let s = item_some _ _ (sym c.in-Some.is ∙ c.item.ensures) in (s.0, omega (arith, s))
 
-pub put_link-requires : goal.put_link-requires
-put_link-requires c =
-    let p = c.requires.2 in (
-      omega (arith, mark-small c.requires.0 c.requires.1 c.args.r c.args.heads.now c.args.marks.now p),
-      rw c.item_at.ensures
-          (mark-place c.requires.0 c.requires.1 c.args.r c.args.heads.now c.args.marks.now p c.loop-marks.marks c.loop-marks.q (c.loop-marks.invariant c.requires.0 c.requires.1 p) (sym c.is_boundary.ensures ∙ c.loop-marks-test.true)),
-    )
+pub option-requires : goal.option-requires
+option-requires c = mark-in c.requires.2 (c.loop-i.invariant c.requires.0 c.requires.1 c.requires.2)
 
-pub overflow_add-q-in-loop-marks : goal.overflow_add-q-in-loop-marks
-overflow_add-q-in-loop-marks c =
-    let p = c.requires.2 in
-    omega (arith, mark-far c.requires.0 c.requires.1 c.args.r c.args.heads.now c.args.marks.now p c.loop-marks.marks c.loop-marks.q (c.loop-marks.invariant c.requires.0 c.requires.1 p))
+pub item-requires : goal.item-requires
+item-requires c = mark-in c.requires.2 (c.loop-i.invariant c.requires.0 c.requires.1 c.requires.2)
 
-pub loop-marks-smaller : goal.loop-marks-smaller
-loop-marks-smaller c =
-    let p = c.requires.2 in
-    omega (arith, mark-in c.requires.0 c.requires.1 c.args.r c.args.heads.now c.args.marks.now p c.loop-marks.marks c.loop-marks.q (c.loop-marks.invariant c.requires.0 c.requires.1 p))
+pub bounds-marks-i : goal.bounds-marks-i
+bounds-marks-i c =
+    let a = goal.at.bounds-marks-i c in
+    let s = some a.In-Some in
+    omega (arith, mark-place c.requires.2 (c.loop-i.invariant c.requires.0 c.requires.1 c.requires.2) (inside a.After-item) s.1, s.0)
 
-pub loop-marks-preserved : goal.loop-marks-preserved
-loop-marks-preserved c =
+pub offset_bounds-marks-i : goal.offset_bounds-marks-i
+offset_bounds-marks-i c =
+    let a = goal.at.offset_bounds-marks-i c in
+    let s = some a.In-Some in
+    omega (arith, mark-low c.requires.2 (c.loop-i.invariant c.requires.0 c.requires.1 c.requires.2) (inside a.After-item) s.1, s.0)
+
+pub overflow_add-q-in-loop-i : goal.overflow_add-q-in-loop-i
+overflow_add-q-in-loop-i c = omega (arith, mark-far c.requires.2 (c.loop-i.invariant c.requires.0 c.requires.1 c.requires.2))
+
+pub loop-i-smaller : goal.loop-i-smaller
+loop-i-smaller c = omega (arith, mark-in c.requires.2 (c.loop-i.invariant c.requires.0 c.requires.1 c.requires.2))
+
+pub loop-i-preserved : goal.loop-i-preserved
+loop-i-preserved c =
+    let b = inside (goal.at.loop-i-preserved c).After-item in
     λ g on m.
-    rw (c.put_link.ensures, c.item_at.ensures)
-    (mark-next g on c.args.r c.args.heads.now c.args.marks.now m c.loop-marks.marks c.loop-marks.q (c.loop-marks.invariant g on m) (sym c.is_boundary.ensures ∙ c.loop-marks-test.true))
+    let p = c.loop-i.invariant g on m in
+    elim c.match-item.branch [
+      | in-Some w ↦ let s = item_some _ _ (sym w.in-Some.is ∙ c.item.ensures) in rw (w.marks-is, sym s.0) (mark-full m p b (omega (arith, s)))
+      | in-None w ↦ rw w.marks-is (mark-over m p b (item_none _ (sym w.in-None.is ∙ c.item.ensures)))
+    ]
 
 pub returns : goal.returns
-returns c =
-    λ g on m. mark-done g on c.args.r c.args.heads.now c.args.marks.now m c.loop-marks.marks c.loop-marks.q (c.loop-marks.invariant g on m) (sym c.is_boundary.ensures ∙ c.loop-marks-test.false)
+returns c = λ g on m. mark-done m (c.loop-i.invariant g on m) (sym (option_is _ c.option.ensures) ∙ c.loop-i-test.ensures)

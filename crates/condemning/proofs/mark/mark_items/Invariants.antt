@@ -5,8 +5,8 @@ use Rattle.condemning.specs.Marks.{Marking}
 use Rattle.condemning.proofs.Marking.{Passing}
 use Rattle.condemning.proofs.mark.mark_items.Given as goal
 
-abbrev pub invariant-loop-marks : goal.invariant-loop-marks
-invariant-loop-marks l = (g : Ground) (on : ℕ → Bool) → Marking g on l.r l.heads l.fn.marks → Passing g on l.r l.marks l.q
+abbrev pub invariant-loop-i : goal.invariant-loop-i
+invariant-loop-i l = (g : Ground) (on : ℕ → Bool) → Marking g on l.r l.nodes.heads.now l.fn.marks → Passing g on l.r l.marks l.q
 
-abbrev pub decreases-loop-marks : goal.decreases-loop-marks
-decreases-loop-marks l = length l.heads - l.q
+abbrev pub decreases-loop-i : goal.decreases-loop-i
+decreases-loop-i l = length l.nodes.heads.now - l.q

@@ -1,28 +1,26 @@
 -- `desk::reduce::reduce` meets its contract. Assumes nothing.
-use Rattle.rules.specs.Checks.{Results}
-use Rattle.engine.specs.Call.{result_lists}
-use Rattle.words.specs.Bytes.{numbers_of}
-use Rattle.desk.proofs.Reading.{sized-lists, counts-refused, counts-fit, counts-passed}
+use Rattle.std.proofs.Common.{◌≡◌, ◌∙◌, ap}
+use Rattle.rules.specs.Lent.{results_in}
+use Rattle.rules.specs.Refusals.{refusal_in}
+use Rattle.desk.proofs.Reading.{sized, sized-lists, counts-refused, counts-fit, counts-passed}
 use Rattle.desk.proofs.reduce.reduce.Goals as goal
+use Rattle.desk.proofs.reduce.reduce.Goals.{After-within-counts}
 
-pub returns-in-Refused : goal.returns-in-Refused
-returns-in-Refused c =
-    let g = c.args in
-    let bytes : Results = result_lists g.kept.now g.out_ends.now g.numbers.now g.out_items.now g.out_colours.now in
-    counts-refused g.np g.ns g.cap g.items.now g.colours.now g.ends.now bytes
-    (sized-lists g.np g.ns (numbers_of g.items.now) (numbers_of g.colours.now) (numbers_of g.ends.now) _ c.desk_figures.ensures c.any_ragged-ragged.ensures c.count-2.ensures c.count-e.ensures c.count.ensures c.within-sized.ensures c.in-Refused.is)
+-- what is said of the counts
+counted : (c : After-within-counts) → sized c.args.given.now (results_in c.args.results.now) ≡ refusal_in c.within-counts.result
+counted c = sized-lists _ _ _ _ _ _ c.desk_figures.ensures c.any_ragged-ragged.ensures c.count-2.ensures c.count-entries.ensures c.count.ensures c.within-counts.ensures.refused
+
+pub returns-in-Err-clause-served : goal.returns-in-Err-clause-served
+returns-in-Err-clause-served c =
+    let d = (goal.at.returns-in-Err-clause-served c).After-within-counts in
+    counts-refused d.args.given.now (results_in d.args.results.now) (counted d ∙ ap refusal_in c.in-Err.is)
 
 pub read-requires : goal.read-requires
 read-requires c =
-    let g = c.args in
-    let bytes : Results = result_lists g.kept.now g.out_ends.now g.numbers.now g.out_items.now g.out_colours.now in
-    counts-fit g.np g.ns g.cap g.items.now g.colours.now g.ends.now bytes
-    (sized-lists g.np g.ns (numbers_of g.items.now) (numbers_of g.colours.now) (numbers_of g.ends.now) _ c.desk_figures.ensures c.any_ragged-ragged.ensures c.count-2.ensures c.count-e.ensures c.count.ensures c.within-sized.ensures c.in_default.is)
+    let d = (goal.at.read-requires c).After-within-counts in
+    counts-fit d.args.given.now (results_in d.args.results.now) (counted d ∙ ap refusal_in c.in_default.is)
 
-pub returns : goal.returns
-returns c =
-    let g = c.args in
-    let bytes : Results = result_lists g.kept.now g.out_ends.now g.numbers.now g.out_items.now g.out_colours.now in
-    counts-passed g.np g.ns g.cap g.items.now g.colours.now g.ends.now bytes
-    (sized-lists g.np g.ns (numbers_of g.items.now) (numbers_of g.colours.now) (numbers_of g.ends.now) _ c.desk_figures.ensures c.any_ragged-ragged.ensures c.count-2.ensures c.count-e.ensures c.count.ensures c.within-sized.ensures c.in_default.is)
-    c.read.ensures
+pub returns-clause-served : goal.returns-clause-served
+returns-clause-served c =
+    let d = (goal.at.returns-clause-served c).After-within-counts in
+    counts-passed d.args.given.now (results_in d.args.results.now) (counted d ∙ ap refusal_in c.in_default.is) c.read.ensures.served

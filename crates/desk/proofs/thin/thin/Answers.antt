@@ -1,40 +1,33 @@
 -- `desk::thin::thin` meets its contract. Assumes nothing.
-use Rattle.std.proofs.Common.{false}
-use Rattle.rules.specs.Checks.{Results}
-use Rattle.engine.specs.Call.{result_lists}
+use Rattle.std.proofs.Common.{◌≡◌, false}
+use mathlib.Core.Option.{none}
+use Rattle.rules.specs.Checks.{refusal_of}
+use Rattle.rules.specs.Lent.{results_in, handed_in}
 use Rattle.checking.proofs.Telling.{refuses, passes}
-use Rattle.desk.specs.Desk.{desk_figures}
-use Rattle.desk.proofs.Checking.{desk-lent}
+use Rattle.desk.specs.Desk.{desk_figures, desk_room, numbers_in}
 use Rattle.desk.proofs.Thinning.{refused-served, accepted, done, handed-back}
 use Rattle.desk.proofs.thin.thin.Goals as goal
+use Rattle.desk.proofs.thin.thin.Goals.{In_default}
 
-pub returns-in-Refused : goal.returns-in-Refused
-returns-in-Refused c =
-    let g = c.args in
-    let bytes : Results = result_lists g.kept.now g.out_ends.now g.numbers.now g.out_items.now g.out_colours.now in
-    let l = desk-lent bytes c.count.ensures c.count-2.ensures c.count-3.ensures c.count-4.ensures c.count-5.ensures in
-    refused-served false _ bytes _ (refuses desk_figures false _ _ c.refusal-check.ensures c.desk_figures.ensures l c.in-Refused.is)
+-- behind the checks nothing is refused
+passed-checks : (c : In_default) → refusal_of desk_figures false (handed_in c.args.given.now desk_room (numbers_in (results_in c.args.results.now))) ≡ none
+passed-checks c = passes desk_figures false _ _ c.refusal-checked.ensures c.desk_figures.ensures c.lengths.ensures c.in_default.is
+
+pub returns-in-Err-clause-served : goal.returns-in-Err-clause-served
+returns-in-Err-clause-served c = refused-served false _ _ _ (refuses desk_figures false _ _ c.refusal-checked.ensures c.desk_figures.ensures c.lengths.ensures c.in-Err.is)
 
 pub solve-answer-requires : goal.solve-answer-requires
-solve-answer-requires c =
-    let g = c.args in
-    let bytes : Results = result_lists g.kept.now g.out_ends.now g.numbers.now g.out_items.now g.out_colours.now in
-    let l = desk-lent bytes c.count.ensures c.count-2.ensures c.count-3.ensures c.count-4.ensures c.count-5.ensures in
-    let e = passes desk_figures false _ _ c.refusal-check.ensures c.desk_figures.ensures l c.in_default.is in
-    accepted _ _ _ _ _ _ bytes e
+solve-answer-requires c = let d = (goal.at.solve-answer-requires c).In_default in accepted d.args.given.now (results_in d.args.results.now) (passed-checks d)
 
 pub hand_back-requires : goal.hand_back-requires
 hand_back-requires c =
-    let g = c.args in
-    let bytes : Results = result_lists g.kept.now g.out_ends.now g.numbers.now g.out_items.now g.out_colours.now in
-    let l = desk-lent bytes c.count.ensures c.count-2.ensures c.count-3.ensures c.count-4.ensures c.count-5.ensures in
-    let e = passes desk_figures false _ _ c.refusal-check.ensures c.desk_figures.ensures l c.in_default.is in
-    (done _ _ _ _ _ _ bytes e c.solve-answer.result _ c.solve-answer.ensures).handable
+    let d = (goal.at.hand_back-requires c).In_default in
+    (done d.args.given.now (results_in d.args.results.now) (passed-checks d) c.solve-answer.result _ c.solve-answer.ensures.outcome).handable
 
-pub returns : goal.returns
-returns c =
-    let g = c.args in
-    let bytes : Results = result_lists g.kept.now g.out_ends.now g.numbers.now g.out_items.now g.out_colours.now in
-    let l = desk-lent bytes c.count.ensures c.count-2.ensures c.count-3.ensures c.count-4.ensures c.count-5.ensures in
-    let e = passes desk_figures false _ _ c.refusal-check.ensures c.desk_figures.ensures l c.in_default.is in
-    handed-back _ _ _ _ _ _ bytes e (done _ _ _ _ _ _ bytes e c.solve-answer.result _ c.solve-answer.ensures) c.hand_back.ensures
+pub returns-clause-served : goal.returns-clause-served
+returns-clause-served c =
+    let d = (goal.at.returns-clause-served c).In_default in
+    let given = d.args.given.now in
+    let bytes = results_in d.args.results.now in
+    let e = passed-checks d in
+    handed-back given bytes e (done given bytes e c.solve-answer.result _ c.solve-answer.ensures.outcome) c.hand_back.ensures.handed

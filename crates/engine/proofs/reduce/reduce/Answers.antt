@@ -1,34 +1,57 @@
 -- `engine::reduce::reduce` meets its contract. Assumes nothing.
-use Rattle.std.proofs.Common.{arith, ◌∙◌}
+use Rattle.std.proofs.Common.{◌≡◌, ◌+◌, rules, arith, refl, ◌∙◌, ap}
+use Rattle.rules.specs.Lent.{room_in}
+use Rattle.rules.specs.Outcome.{cleared}
+use Rattle.engine.specs.Call.{room_lists}
 use Rattle.engine.proofs.Clearing.{cleared-alike}
 use Rattle.engine.proofs.Concluding.{takes, call-buildable, stop-small, call-infeasible, call-reported, call-reduced}
 use Rattle.engine.proofs.reduce.reduce.Goals as goal
+use Rattle.engine.proofs.reduce.reduce.Goals.{After-clear_room, in-Ok, in-Err}
 
-pub search-found-requires : goal.search-found-requires
-search-found-requires c = let e = takes _ c.requires in (_, _, call-buildable e)
+-- whatever the answer, the room has the lists that the search left, and is cleared
+left : (c : After-clear_room)
+    → room_in c.match-search.room ≡ room_lists c.search.new.nodes.heads.now c.search.new.nodes.up.now c.search.new.nodes.down.now c.search.new.tints c.search.new.marks
+left c = elim c.match-search.branch [
+  | in-Ok w ↦ search rules
+  | in-Err w ↦ search rules
+]
 
-pub overflow_cast-result : goal.overflow_cast-result
-overflow_cast-result c =
-    let e = takes _ c.requires in
-    let o = c.search-found.ensures _ _ (call-buildable e) in
-    omega (arith, stop-small e (o.stops c.if-found-ne0.true))
+zeros : (c : After-clear_room) → room_in c.clear_room.new.room ≡ cleared (room_in c.args.room.now)
+zeros c =
+    let n = c.search.ensures.nodes in
+    c.clear_room.ensures.cleared ∙ ap cleared (left c) ∙ cleared-alike _ _ _ _ _ _ _ _ _ _ n.heads-long n.up-long n.down-long c.search.auto.tints c.search.auto.marks
 
-pub returns-then-found-ne0 : goal.returns-then-found-ne0
-returns-then-found-ne0 c =
-    let e = takes _ c.requires in
-    let o = c.search-found.ensures _ _ (call-buildable e) in
-    let l = c.search-found.auto in
-    call-infeasible e (o.stops c.if-found-ne0.true) (c.clear_room.ensures ∙ cleared-alike _ _ _ _ _ _ _ _ _ _ l.heads l.up l.down l.tints l.marks)
+pub search-requires : goal.search-requires
+search-requires c = let e = takes _ c.requires in (_, _, call-buildable e)
 
 pub report-answer-requires : goal.report-answer-requires
 report-answer-requires c =
     let e = takes _ c.requires in
-    let o = (c.search-found.ensures _ _ (call-buildable e)).goes c.if-found-ne0.false in
-    (o.2.ground, call-reported e o.1 o.2)
+    let n = c.search.ensures.nodes in
+    let o = (rw c.in-Ok.is at (c.search.ensures.found _ _ (call-buildable e))).goes in
+    (o.2.ground, call-reported e c.search.new.nodes n.np n.n o.1 o.2)
 
-pub returns : goal.returns
-returns c =
+pub overflow_sub-stop : goal.overflow_sub-stop
+overflow_sub-stop c =
     let e = takes _ c.requires in
-    let o = (c.search-found.ensures _ _ (call-buildable e)).goes c.if-found-ne0.false in
-    let l = c.search-found.auto in
-    call-reduced e o.1 o.2 (c.report-answer.ensures o.2.ground (call-reported e o.1 o.2)) (c.clear_room-2.ensures ∙ cleared-alike _ _ _ _ _ _ _ _ _ _ l.heads l.up l.down l.tints l.marks)
+    let o = (rw c.in-Err.is at (c.search.ensures.found _ _ (call-buildable e))).stops in
+    omega (arith, o.0)
+
+pub overflow_cast-stop : goal.overflow_cast-stop
+overflow_cast-stop c =
+    let e = takes _ c.requires in
+    let o = (rw c.in-Err.is at (c.search.ensures.found _ _ (call-buildable e))).stops in
+    omega (arith, stop-small e o.1)
+
+pub returns-clause-outcome : goal.returns-clause-outcome
+returns-clause-outcome c =
+    let e = takes _ c.requires in
+    let n = c.search.ensures.nodes in
+    let f = c.search.ensures.found _ _ (call-buildable e) in
+    elim c.match-search.branch [
+      | in-Ok w ↦
+          let o = (rw w.in-Ok.is at f).goes in
+          rw (w.answer-is, w.results-is)
+          (call-reduced e c.search.new.nodes n.np n.n o.1 o.2 (w.report-answer.ensures.reported o.2.ground (call-reported e c.search.new.nodes n.np n.n o.1 o.2)) (zeros c))
+      | in-Err w ↦ rw (w.answer-is, w.results-is, w.from.ensures) (call-infeasible e (rw w.in-Err.is at f).stops.1 refl (zeros c))
+    ]

@@ -1,38 +1,42 @@
 -- `hiding::back::unhide_option` meets its contract: at each place of the walk what is ahead of it is still away. Assumes nothing.
 use Rattle.std.proofs.Common.{◌∙◌, length, sym}
+use Rattle.links.proofs.SameNodes.{same-refl, same-then}
 use Rattle.hiding.proofs.Aways.{away-room}
 use Rattle.hiding.proofs.RoundBack.{begin, finish, inside, over, over-less, relink-needs, more-needs, full}
 use Rattle.hiding.proofs.back.unhide_option.Goals as goal
 
 pub loop-nn-init : goal.loop-nn-init
-loop-nn-init c = λ g rest a k. begin a k
+loop-nn-init c = (same-refl c.args.nodes.now, λ g rest a k. begin a k)
 
-pub item_at-cc-requires : goal.item_at-cc-requires
-item_at-cc-requires c = (inside c.requires.2 (c.loop-nn.invariant c.requires.0 c.requires.1 c.requires.2 c.requires.3)).0
+pub item-requires : goal.item-requires
+item-requires c = (inside c.requires.2 (c.loop-nn.invariant.1 c.requires.0 c.requires.1 c.requires.2 c.requires.3)).0
 
-pub loop-nn-smaller-then-cc-eq0 : goal.loop-nn-smaller-then-cc-eq0
-loop-nn-smaller-then-cc-eq0 c =
-    rw c.link-nn.ensures
-    (over-less c.requires.2 (c.loop-nn.invariant c.requires.0 c.requires.1 c.requires.2 c.requires.3) c.loop-nn-test.true (sym c.item_at-cc.ensures ∙ c.if-cc-eq0.true) (length c.args.heads.now)
+pub loop-nn-smaller-in-None : goal.loop-nn-smaller-in-None
+loop-nn-smaller-in-None c =
+    let m = c.loop-nn.invariant.1 c.requires.0 c.requires.1 c.requires.2 c.requires.3 in
+    rw c.above-nn.ensures.node
+    (over-less c.requires.2 m c.loop-nn-test.true (sym c.in-None.is ∙ c.item.ensures) (length c.args.nodes.now.heads.now)
     (away-room c.requires.0 c.requires.2.tidy c.requires.3))
 
-pub loop-nn-preserved-then-cc-eq0 : goal.loop-nn-preserved-then-cc-eq0
-loop-nn-preserved-then-cc-eq0 c =
-    λ g rest a k. rw c.link-nn.ensures (over a (c.loop-nn.invariant g rest a k) c.loop-nn-test.true (sym c.item_at-cc.ensures ∙ c.if-cc-eq0.true))
+pub loop-nn-preserved-in-None : goal.loop-nn-preserved-in-None
+loop-nn-preserved-in-None c =
+    (c.loop-nn.invariant.0, λ g rest a k. rw c.above-nn.ensures.node (over a (c.loop-nn.invariant.1 g rest a k) c.loop-nn-test.true (sym c.in-None.is ∙ c.item.ensures)))
 
 pub relink-requires : goal.relink-requires
 relink-requires c =
-    relink-needs c.requires.2 (c.loop-nn.invariant c.requires.0 c.requires.1 c.requires.2 c.requires.3) c.loop-nn-test.true (λ e. c.if-cc-eq0.false (c.item_at-cc.ensures ∙ e))
+    relink-needs c.requires.2 (c.loop-nn.invariant.1 c.requires.0 c.requires.1 c.requires.2 c.requires.3) c.loop-nn-test.true (sym c.in-Some.is ∙ c.item.ensures)
 
 pub more-requires : goal.more-requires
 more-requires c =
-    more-needs c.requires.2 (c.loop-nn.invariant c.requires.0 c.requires.1 c.requires.2 c.requires.3) c.loop-nn-test.true (λ e. c.if-cc-eq0.false (c.item_at-cc.ensures ∙ e)) c.item_at-cc.ensures
+    rw c.relink.ensures.heads (more-needs c.requires.2 (c.loop-nn.invariant.1 c.requires.0 c.requires.1 c.requires.2 c.requires.3) c.loop-nn-test.true (sym c.in-Some.is ∙ c.item.ensures))
 
 pub loop-nn-preserved : goal.loop-nn-preserved
-loop-nn-preserved c =
-    λ g rest a k.
-    rw (c.more.ensures, c.relink.ensures.0, c.relink.ensures.1)
-    (full a (c.loop-nn.invariant g rest a k) c.loop-nn-test.true (λ e. c.if-cc-eq0.false (c.item_at-cc.ensures ∙ e)) c.item_at-cc.ensures)
+loop-nn-preserved c = (
+  same-then c.loop-nn.invariant.0 (same-then c.relink.ensures.nodes c.more.ensures.nodes),
+  λ g rest a k.
+      rw (c.more.ensures.heads, c.more.ensures.up, c.more.ensures.down, c.relink.ensures.heads, c.relink.ensures.up, c.relink.ensures.down)
+      (full a (c.loop-nn.invariant.1 g rest a k) c.loop-nn-test.true (sym c.in-Some.is ∙ c.item.ensures)),
+)
 
-pub returns : goal.returns
-returns c = λ g rest a k. finish a (rw c.loop-nn-test.false at (c.loop-nn.invariant g rest a k))
+pub returns-clause-back : goal.returns-clause-back
+returns-clause-back c = λ g rest a k. finish a (rw c.loop-nn-test.false at (c.loop-nn.invariant.1 g rest a k))

@@ -3,4 +3,4 @@ use Rattle.kapkyrem.proofs.Telling.{bytes_fit}
 use Rattle.kapkyrem.proofs.bytes.kapkyrem_reduce.Goals as goal
 
 pub pack_desk-requires : goal.pack_desk-requires
-pack_desk-requires c = bytes_fit _ _ _ c.reduce-answer.result c.reduce-answer.ensures
+pack_desk-requires c = bytes_fit _ _ _ c.reduce.result c.reduce.ensures.served

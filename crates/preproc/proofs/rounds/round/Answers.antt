@@ -1,37 +1,59 @@
 -- `preproc::rounds::round` meets its contract: at each item the rest of the round is the rules' rest. Assumes nothing.
-use Rattle.std.proofs.Common.{refl, arith}
-use Rattle.preproc.proofs.Rounding.{round-begin, round-end, round-figured, round-header, round-standing, round-over, round-stop, round-next}
+use Rattle.std.proofs.Common.{◌≡◌, ◌≢◌, ◌+◌, ℕ, rules, arith, refl, ap, Err}
+use Rattle.rules.specs.Rounds.{item_step}
+use Rattle.links.specs.Head.{item_of, head}
+use Rattle.links.proofs.SameNodes.{same-refl, same-then}
+use Rattle.showing.specs.Showing.{state_of}
+use Rattle.preproc.proofs.Same.{restep}
+use Rattle.preproc.proofs.Rounding.{round-begin, round-over, round-end, round-standing, round-figured, round-header, round-stop, round-next, round-in}
 use Rattle.preproc.proofs.rounds.round.Goals as goal
+use Rattle.preproc.proofs.rounds.round.Goals.{then-not-is_empty+in_ok-removed, else-not-is_empty}
 
 pub loop-i-init : goal.loop-i-init
-loop-i-init c = λ g s f m. round-begin _ _ s
+loop-i-init c = (same-refl c.args.nodes.now, λ g s f m. round-begin _ _ s)
 
-pub loop-i-preserved-then-item_at-eq0 : goal.loop-i-preserved-then-item_at-eq0
-loop-i-preserved-then-item_at-eq0 c =
-    λ g s f m. round-over f m (c.loop-i.invariant g s f m) c.loop-i-test.true (omega arith)
+pub is_empty-requires : goal.is_empty-requires
+is_empty-requires c = let q = c.requires in round-in q.2 q.3 (c.loop-i.invariant.1 q.0 q.1 q.2 q.3) c.loop-i-test.true
 
-pub reduce_options-step-requires : goal.reduce_options-step-requires
-reduce_options-step-requires c =
-    let a = c.requires in
-    let G = c.loop-i.invariant a.0 a.1 a.2 a.3 in
+pub reduce_options-requires : goal.reduce_options-requires
+reduce_options-requires c =
+    let q = c.requires in
     let t = c.loop-i-test.true in
-    (G.holding.ground, c.loop-i.i, round-standing a.2 a.3 G t, round-figured a.2 a.3 G t, refl, round-header a.2 a.3 G t)
+    let G = c.loop-i.invariant.1 q.0 q.1 q.2 q.3 in
+    (G.holding.ground, c.loop-i.i, round-standing q.2 q.3 G t, rw (c.loop-i.invariant.0.start, c.loop-i.invariant.0.np) (round-figured q.2 q.3 G t), refl, round-header q.2 q.3 G t)
 
-pub returns-then-step-ne0 : goal.returns-then-step-ne0
-returns-then-step-ne0 c =
+pub returns-in_err-removed-clause-round : goal.returns-in_err-removed-clause-round
+returns-in_err-removed-clause-round c =
+    let is : c.from_residual.result ≡ Err c.in_err-removed.field-0.0 = search rules in
+    let some : item_of (head c.loop-i.nodes.heads.now (c.loop-i.i + 1)) ≢ 0 = search rules in
+    let v = c.loop-i.invariant.0 in
+    let t = c.loop-i-test.true in
     λ g s f m.
-    let G = c.loop-i.invariant g s f m in
-    let t = c.loop-i-test.true in
-    let o = c.reduce_options-step.ensures G.holding.ground c.loop-i.i (round-standing f m G t) (round-figured f m G t) refl (round-header f m G t) in
-    round-stop f m G t (λ z. omega arith) o c.if-step-ne0.true
+    let G = c.loop-i.invariant.1 g s f m in
+    let o = c.reduce_options.ensures.step G.holding.ground c.loop-i.i (round-standing f m G t) (rw (v.start, v.np) (round-figured f m G t)) refl (round-header f m G t) in
+    rw is (round-stop f m G t some (restep (ap (λ (k : ℕ). item_step k c.loop-i.i (state_of G.holding.ground)) v.np) c.in_err-removed.was o))
 
 pub loop-i-preserved : goal.loop-i-preserved
-loop-i-preserved c =
-    λ g s f m.
-    let G = c.loop-i.invariant g s f m in
-    let t = c.loop-i-test.true in
-    let o = c.reduce_options-step.ensures G.holding.ground c.loop-i.i (round-standing f m G t) (round-figured f m G t) refl (round-header f m G t) in
-    rw c.either-removed.ensures (round-next f m G t (λ z. omega arith) o c.if-step-ne0.false)
+loop-i-preserved c = (
+  elim c.if-not-is_empty.branch [
+    | then-not-is_empty+in_ok-removed w ↦ rw w.nodes-is (same-then c.loop-i.invariant.0 w.reduce_options.ensures.nodes)
+    | else-not-is_empty w ↦ rw w.nodes-is c.loop-i.invariant.0
+  ],
+  λ g s f m.
+      let v = c.loop-i.invariant.0 in
+      let t = c.loop-i-test.true in
+      let G = c.loop-i.invariant.1 g s f m in
+      elim c.if-not-is_empty.branch [
+        | then-not-is_empty+in_ok-removed w ↦
+            let some : item_of (head c.loop-i.nodes.heads.now (c.loop-i.i + 1)) ≢ 0 = search rules in
+            let o = w.reduce_options.ensures.step G.holding.ground c.loop-i.i (round-standing f m G t) (rw (v.start, v.np) (round-figured f m G t)) refl (round-header f m G t) in
+            rw (w.nodes-is, w.tints-is, w.marks-is, w.removed-is)
+            (round-next f m G t some (restep (ap (λ (k : ℕ). item_step k c.loop-i.i (state_of G.holding.ground)) v.np) w.in_ok-removed.was o))
+        | else-not-is_empty w ↦
+            let none : item_of (head c.loop-i.nodes.heads.now (c.loop-i.i + 1)) ≡ 0 = search rules in
+            rw (w.nodes-is, w.tints-is, w.marks-is, w.removed-is) (round-over f m G t none)
+      ],
+)
 
-pub returns : goal.returns
-returns c = λ g s f m. round-end f m (c.loop-i.invariant g s f m) c.loop-i-test.false
+pub returns-clause-round : goal.returns-clause-round
+returns-clause-round c = λ g s f m. round-end f m (c.loop-i.invariant.1 g s f m) (omega arith)

@@ -1,13 +1,11 @@
--- `preproc::rounds::uncovered` meets its contract: the items passed are all in options. Assumes nothing.
-use Rattle.std.proofs.Common.{◌∙◌, sym}
-use Rattle.preproc.proofs.Lowest.{look-found, look-next, look-end}
+-- `preproc::rounds::uncovered` meets its contract: what `find` gives over the headers is the lowest. Assumes nothing.
+use Rattle.std.proofs.Common.{◌≡◌, ◌≢◌, ℕ, rules}
+use Rattle.std.proofs.lemmas.Iterator.{first_from_Range}
+use Rattle.links.specs.Head.{item_of, head}
+use Rattle.preproc.proofs.Lowest.{looked}
 use Rattle.preproc.proofs.rounds.uncovered.Goals as goal
 
-pub returns-then-item_at-eq0 : goal.returns-then-item_at-eq0
-returns-then-item_at-eq0 c = λ g k. look-found k c.loop-i.i c.loop-i-test.true (c.loop-i.invariant g k) (sym c.item_at.ensures ∙ c.if-item_at-eq0.true)
-
-pub loop-i-preserved : goal.loop-i-preserved
-loop-i-preserved c = λ g k. look-next k c.loop-i.i c.loop-i-test.true (c.loop-i.invariant g k) (λ z. c.if-item_at-eq0.false (c.item_at.ensures ∙ z))
-
 pub returns : goal.returns
-returns c = λ g k. look-end k c.loop-i.i c.loop-i-test.false (c.loop-i.invariant g k)
+returns c =
+    let length_at : ℕ → ℕ = λ x. item_of (head c.args.nodes.now.heads.now x) in
+    λ g k. looked k c.find.result (first_from_Range _ _ _ c.find.result (λ x. length_at x ≡ 0) (λ x. length_at x ≢ 0) c.find.ensures.ran (λ x q e. search rules) (λ x q e. search rules))

@@ -1,59 +1,55 @@
 -- `removing::delete::delete_others` meets its contract: at each place of the walk the lists are those without what was passed, and no primary
 -- column was emptied yet. Assumes nothing.
-use Rattle.std.proofs.Common.{◌∙◌, sym}
-use Rattle.links.specs.Ground.{taken}
+use Rattle.std.proofs.Common.{◌≡◌, ◌≢◌, ℕ, [], ◌∷◌, rules, arith, refl, ◌∙◌, sym}
+use Rattle.links.specs.Ending.{ending}
+use Rattle.links.specs.Ground.{Ground, taken}
+use Rattle.links.specs.Head.{item_of, head}
+use Rattle.links.specs.Nodes.{in_nodes}
 use Rattle.links.specs.Row.{walked}
-use Rattle.removing.proofs.Deletes.{midway-over, midway-over-way, midway-sits, midway-next, midway-stop, midway-round}
+use Rattle.links.proofs.Endings.{item_none, item_some, ending_err, at_ok}
+use Rattle.links.proofs.SameNodes.{same-then}
+use Rattle.removing.specs.Deleting.{Sitting, Deleting, Deleted}
+use Rattle.removing.proofs.Deletes.{midway-over, midway-over-way, midway-sits, midway-stop, midway-next, midway-round}
 use Rattle.removing.proofs.delete.delete_others.Goals as goal
+use Rattle.removing.proofs.delete.delete_others.Goals.{In-None, In-Some, After-take_out}
 
-pub loop-q-smaller-then-i-eq0 : goal.loop-q-smaller-then-i-eq0
-loop-q-smaller-then-i-eq0 c =
-    let a = c.args in
-    let l = c.loop-q in
-    rw c.link-q.ensures
-    (midway-over-way c.requires.0 a.r a.heads.now a.up.now a.down.now c.requires.1 a.np l.heads l.up l.down l.q (l.invariant c.requires.0 c.requires.1) c.loop-q-test.true
-    (sym c.item_at-i.ensures ∙ c.if-i-eq0.true))
+-- where the node at q has no item; and where it has one, which sits in its column, and what taking it out came to
+bare : (c : In-None) → item_of (head c.loop-q.nodes.heads.now c.loop-q.q) ≡ 0
+bare c = item_none _ (sym c.in-None.is ∙ c.item.ensures)
 
-pub loop-q-preserved-then-i-eq0 : goal.loop-q-preserved-then-i-eq0
-loop-q-preserved-then-i-eq0 c =
-    let a = c.args in
-    let l = c.loop-q in
+some : (c : In-Some) → item_of (head c.loop-q.nodes.heads.now c.loop-q.q) ≢ 0
+some c = omega (arith, item_some _ _ (sym c.in-Some.is ∙ c.item.ensures))
+
+sits : (c : In-Some) (g : Ground) → in_nodes (Deleting g c.args.r) c.args.nodes.now → in_nodes (Sitting (taken g (walked g c.args.r c.loop-q.q)) c.loop-q.q) c.loop-q.nodes
+sits c g d = midway-sits d (c.loop-q.invariant.1 g d) c.loop-q-test.true (some c)
+
+taken_out : (c : After-take_out) (g : Ground) → in_nodes (Sitting (taken g (walked g c.args.r c.loop-q.q)) c.loop-q.q) c.loop-q.nodes
+    → (z : ℕ) × (c.take_out.result ≡ ending z) × in_nodes (Deleted (taken g (walked g c.args.r c.loop-q.q)) c.args.nodes.now.np (c.loop-q.q ∷ [])) c.take_out.new.nodes z
+taken_out c g s = rw c.loop-q.invariant.0.np at (c.take_out.ensures.deleted (taken g (walked g c.args.r c.loop-q.q)) s)
+
+pub loop-q-smaller-in-None : goal.loop-q-smaller-in-None
+loop-q-smaller-in-None c = rw c.above-q.ensures.node (midway-over-way c.requires.1 (c.loop-q.invariant.1 c.requires.0 c.requires.1) c.loop-q-test.true (bare (goal.at.loop-q-smaller-in-None c).In-None))
+
+pub loop-q-preserved-in-None : goal.loop-q-preserved-in-None
+loop-q-preserved-in-None c = (c.loop-q.invariant.0, λ g d. rw c.above-q.ensures.node (midway-over d (c.loop-q.invariant.1 g d) c.loop-q-test.true (bare (goal.at.loop-q-preserved-in-None c).In-None)))
+
+pub take_out-requires : goal.take_out-requires
+take_out-requires c = (taken c.requires.0 (walked c.requires.0 c.args.r c.loop-q.q), sits (goal.at.take_out-requires c).In-Some c.requires.0 c.requires.1)
+
+pub returns-in_err-take_out-in-Some-clause-deleted : goal.returns-in_err-take_out-in-Some-clause-deleted
+returns-in_err-take_out-in-Some-clause-deleted c =
+    let a = goal.at.returns-in_err-take_out-in-Some-clause-deleted c in
+    let same : c.from_residual.result ≡ c.take_out.result = search rules in
     λ g d.
-    rw c.link-q.ensures
-    (midway-over g a.r a.heads.now a.up.now a.down.now d a.np l.heads l.up l.down l.q (l.invariant g d) c.loop-q-test.true (sym c.item_at-i.ensures ∙ c.if-i-eq0.true))
-
-pub take_out-z-requires : goal.take_out-z-requires
-take_out-z-requires c =
-    let a = c.args in
-    let l = c.loop-q in (
-      taken c.requires.0 (walked c.requires.0 a.r l.q),
-      midway-sits c.requires.0 a.r a.heads.now a.up.now a.down.now c.requires.1 a.np l.heads l.up l.down l.q (l.invariant c.requires.0 c.requires.1) c.loop-q-test.true (λ e. c.if-i-eq0.false (c.item_at-i.ensures ∙ e)),
-    )
-
-pub returns-then-z-ne0 : goal.returns-then-z-ne0
-returns-then-z-ne0 c =
-    let a = c.args in
-    let l = c.loop-q in
-    let o = c.take_out-z in
-    λ g d.
-    midway-stop g a.r a.heads.now a.up.now a.down.now d a.np l.heads l.up l.down l.q (l.invariant g d) c.loop-q-test.true (λ e. c.if-i-eq0.false (c.item_at-i.ensures ∙ e)) _ _ _ o.result
-    (o.ensures (taken g (walked g a.r l.q))
-    (midway-sits g a.r a.heads.now a.up.now a.down.now d a.np l.heads l.up l.down l.q (l.invariant g d) c.loop-q-test.true (λ e. c.if-i-eq0.false (c.item_at-i.ensures ∙ e))))
-    c.if-z-ne0.true
+    let o = taken_out a.After-take_out g (sits a.In-Some g d) in
+    (o.0, same ∙ o.1, midway-stop d (c.loop-q.invariant.1 g d) c.loop-q-test.true (some a.In-Some) o.2 (omega (arith, ending_err o.0 _ (sym c.in_err-take_out-in-Some.was ∙ o.1))))
 
 pub loop-q-preserved : goal.loop-q-preserved
 loop-q-preserved c =
-    let a = c.args in
-    let l = c.loop-q in
-    let o = c.take_out-z in
-    λ g d.
-    midway-next g a.r a.heads.now a.up.now a.down.now d a.np l.heads l.up l.down l.q (l.invariant g d) c.loop-q-test.true (λ e. c.if-i-eq0.false (c.item_at-i.ensures ∙ e)) _ _ _ o.result
-    (o.ensures (taken g (walked g a.r l.q))
-    (midway-sits g a.r a.heads.now a.up.now a.down.now d a.np l.heads l.up l.down l.q (l.invariant g d) c.loop-q-test.true (λ e. c.if-i-eq0.false (c.item_at-i.ensures ∙ e))))
-    c.if-z-ne0.false
+    let a = goal.at.loop-q-preserved c in (
+      same-then c.loop-q.invariant.0 c.take_out.ensures.nodes,
+      λ g d. midway-next d (c.loop-q.invariant.1 g d) c.loop-q-test.true (some a.In-Some) (at_ok (taken_out a.After-take_out g (sits a.In-Some g d)) c.in_ok-take_out-in-Some.was) refl,
+    )
 
-pub returns : goal.returns
-returns c =
-    let a = c.args in
-    let l = c.loop-q in
-    λ g d. midway-round g a.r a.heads.now a.up.now a.down.now d a.np l.heads l.up l.down l.q (l.invariant g d) c.loop-q-test.false
+pub returns-clause-deleted : goal.returns-clause-deleted
+returns-clause-deleted c = λ g d. (0, refl, midway-round d (c.loop-q.invariant.1 g d) c.loop-q-test.false)

@@ -1,13 +1,15 @@
 -- The walk round the option: the lists are those without what was passed, no primary column was emptied yet, and the way back to r falls.
 use Rattle.std.proofs.Common.{length}
 use Rattle.links.specs.Ground.{Ground}
+use Rattle.links.specs.Nodes.{in_nodes, SameNodes}
 use Rattle.links.specs.Way.{way}
 use Rattle.removing.specs.Deleting.{Deleting}
 use Rattle.removing.proofs.Deletes.{Midway}
 use Rattle.removing.proofs.delete.delete_others.Given as goal
 
 abbrev pub invariant-loop-q : goal.invariant-loop-q
-invariant-loop-q l = (g : Ground) → Deleting g l.r l.fn.heads l.fn.up l.fn.down → Midway g l.r l.np l.heads l.up l.down l.q
+invariant-loop-q l =
+    SameNodes l.fn.nodes l.nodes × ((g : Ground) → in_nodes (Deleting g l.r) l.fn.nodes → in_nodes (Midway g l.r l.fn.nodes.np) l.nodes l.q)
 
 abbrev pub decreases-loop-q : goal.decreases-loop-q
-decreases-loop-q l = way (length l.fn.heads) l.r l.q
+decreases-loop-q l = way (length l.fn.nodes.heads.now) l.r l.q

@@ -1,27 +1,39 @@
--- `removing::delete::take_out` meets its contract: the entry leaves its column, and the answer is the column if that empties it and it is
+-- `removing::delete::take_out` meets its contract: the entry leaves its column, and the error is the column if that empties it and it is
 -- primary. Assumes nothing.
-use Rattle.std.proofs.Common.{inl, inr}
+use Rattle.std.proofs.Common.{inl, inr, refl, arith, ◌∙◌}
 use borrow.Author.Tests.{le-leb, lt-leb}
-use Rattle.removing.proofs.TakingOut.{sits-length, out-emptied, out-not}
+use Rattle.links.proofs.Endings.{ending_of}
+use Rattle.removing.proofs.TakingOut.{sits-in, sits-number, sits-some, sits-length, out-emptied, out-not}
 use Rattle.removing.proofs.delete.take_out.Goals as goal
-use Rattle.removing.proofs.delete.take_out.Goals.{else-t-eq0-via-then-t-eq0+else-i-np, else-t-eq0-via-else-t-eq0}
+use Rattle.removing.proofs.delete.take_out.Goals.{else-fewer-eq0-via-then-fewer-eq0+else-i-nodes, else-fewer-eq0-via-else-fewer-eq0}
 
-pub fewer-t-requires : goal.fewer-t-requires
-fewer-t-requires c =
-    sits-length c.requires.0 c.args.x c.args.heads.now c.args.up.now c.args.down.now c.requires.1 c.item_at-i.result c.item_at-i.ensures
+pub number-i-requires : goal.number-i-requires
+number-i-requires c = (sits-in c.requires.1, sits-number c.requires.1)
 
-pub returns-then-i-np : goal.returns-then-i-np
-returns-then-i-np c =
-    λ g w.
-    out-emptied g c.args.x c.args.heads.now c.args.up.now c.args.down.now w c.item_at-i.result c.item_at-i.ensures _ _ _ c.fewer-t.ensures.0 c.unlink.ensures.0 c.unlink.ensures.1 c.args.np
-    c.fewer-t.result c.fewer-t.ensures.1 c.if-t-eq0.true (le-leb c.item_at-i.result c.args.np c.if-i-np.true)
+pub fewer-requires : goal.fewer-requires
+fewer-requires c = rw c.unlink.ensures.heads (sits-length c.requires.1 c.number-i.ensures)
 
-pub returns-else-t-eq0 : goal.returns-else-t-eq0
-returns-else-t-eq0 c =
-    λ g w.
-    out-not g c.args.x c.args.heads.now c.args.up.now c.args.down.now w c.item_at-i.result c.item_at-i.ensures _ _ _ c.fewer-t.ensures.0 c.unlink.ensures.0 c.unlink.ensures.1 c.args.np
-    c.fewer-t.result c.fewer-t.ensures.1
-    (elim c.else-t-eq0.branch [
-      | else-t-eq0-via-then-t-eq0+else-i-np v ↦ inr (lt-leb c.item_at-i.result c.args.np v.if-i-np.false)
-      | else-t-eq0-via-else-t-eq0 v ↦ inl v.if-t-eq0.false
-    ])
+pub returns-then-i-nodes-clause-deleted : goal.returns-then-i-nodes-clause-deleted
+returns-then-i-nodes-clause-deleted c =
+    let few = c.fewer.ensures in
+    let out = c.unlink.ensures in
+    λ g w. (
+      c.number-i.result,
+      ending_of _ (sits-some w c.number-i.ensures),
+      out-emptied w c.number-i.ensures (rw out.heads at few.heads) (few.up ∙ out.up) (few.down ∙ out.down) (rw out.heads at few.length) c.if-fewer-eq0.true
+          (le-leb c.number-i.result c.args.nodes.now.np (omega (arith, c.if-i-nodes.true, few.nodes.np, out.nodes.np))),
+    )
+
+pub returns-clause-deleted : goal.returns-clause-deleted
+returns-clause-deleted c =
+    let few = c.fewer.ensures in
+    let out = c.unlink.ensures in
+    λ g w. (
+      0,
+      refl,
+      out-not w c.number-i.ensures (rw out.heads at few.heads) (few.up ∙ out.up) (few.down ∙ out.down) (rw out.heads at few.length)
+          (elim c.else-fewer-eq0.branch [
+            | else-fewer-eq0-via-then-fewer-eq0+else-i-nodes v ↦ inr (lt-leb c.number-i.result c.args.nodes.now.np (omega (arith, v.if-i-nodes.false, few.nodes.np, out.nodes.np)))
+            | else-fewer-eq0-via-else-fewer-eq0 v ↦ inl v.if-fewer-eq0.false
+          ]),
+    )

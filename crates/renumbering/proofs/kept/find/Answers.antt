@@ -1,19 +1,13 @@
--- `renumbering::kept::find` meets its contract: what is before lo is below i, and what is from hi on is not. Assumes nothing.
-use Rattle.std.proofs.Common.{arith}
-use Rattle.renumbering.proofs.Halving.{between-up, between-down, met-end, met-number, met-other}
+-- `renumbering::kept::find` meets its contract: the search by halves finds a number's place in a list that rises. Assumes nothing.
+use Rattle.std.proofs.Common.{◌≡◌, ap, ◌∙◌, rules}
+use Rattle.std.proofs.lemmas.Fn.{always_returns_same}
+use Rattle.renumbering.specs.Parts.{as_option}
+use Rattle.renumbering.proofs.Halving.{searched-place}
 use Rattle.renumbering.proofs.kept.find.Goals as goal
 
-pub loop-lo-preserved-then-kept-mid : goal.loop-lo-preserved-then-kept-mid
-loop-lo-preserved-then-kept-mid c = between-up c.args.kept.now c.requires c.args.i _ _ c.loop-lo.invariant _ (omega arith) c.if-kept-mid.true
-
-pub loop-lo-preserved : goal.loop-lo-preserved
-loop-lo-preserved c = between-down c.args.kept.now c.requires c.args.i _ _ c.loop-lo.invariant _ (omega arith) (omega arith) c.if-kept-mid.false
-
-pub returns-then-lo-kept : goal.returns-then-lo-kept
-returns-then-lo-kept c = met-end c.args.kept.now c.requires c.args.i _ _ c.loop-lo.invariant (omega arith) c.if-lo-kept.true
-
-pub returns-then-kept-lo : goal.returns-then-kept-lo
-returns-then-kept-lo c = met-number c.args.kept.now c.requires c.args.i _ _ c.loop-lo.invariant (omega arith) c.if-lo-kept.false c.if-kept-lo.true
-
-pub returns-else-kept-lo : goal.returns-else-kept-lo
-returns-else-kept-lo c = met-other c.args.kept.now c.requires c.args.i _ _ c.loop-lo.invariant (omega arith) c.if-lo-kept.false c.if-kept-lo.false
+pub returns : goal.returns
+returns g c = λ r.
+    let v = g.N.Numeral.value in
+    ap as_option c.ok.ensures.value
+    ∙ searched-place v c.args.kept.now r c.args.i c.binary_search_by_key.result c.binary_search_by_key.ensures.bound
+    (c.binary_search_by_key.ensures.position v (always_returns_same _ (λ a r. r ≡ v a.0.now) _ (λ a r q k. search rules)))

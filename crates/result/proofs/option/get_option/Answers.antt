@@ -1,67 +1,60 @@
 -- `result::option::get_option` meets its contract: at node q the live entries before q are written; at the boundary the end and the number follow.
 -- Assumes nothing.
-use Rattle.std.proofs.Common.{arith}
-use Rattle.result.proofs.OneOption.{reading-heads, reading-tints, reading-over, reading-items, reading-colours, reading_small, reading-one, reading-fits, reading-done}
+use Rattle.std.proofs.Common.{arith, ◌∙◌}
+use Rattle.result.proofs.SameWriter.{writer-then}
+use Rattle.result.proofs.OneOption.{reading-heads, reading-tints, reading-over, reading-items, reading-colours, reading_small, reading-one, reading-fits, reading-ends, reading-numbers, reading-done}
+use Rattle.result.proofs.option.get_option.Goals.{in-Some-item, in_default-item}
 use Rattle.result.proofs.option.get_option.Goals as goal
 
-pub is_boundary-requires : goal.is_boundary-requires
-is_boundary-requires c = let p = c.requires in reading-heads p.3 (c.loop-i.invariant p.0 p.1 p.2 p.3)
+pub option-requires : goal.option-requires
+option-requires c = let p = c.requires in reading-heads p.3 (c.loop-k.invariant.4 p.0 p.1 p.2 p.3)
 
-pub item_at-i-requires : goal.item_at-i-requires
-item_at-i-requires c = let p = c.requires in reading-heads p.3 (c.loop-i.invariant p.0 p.1 p.2 p.3)
+pub item-item-requires : goal.item-item-requires
+item-item-requires c = let p = c.requires in reading-heads p.3 (c.loop-k.invariant.4 p.0 p.1 p.2 p.3)
 
-pub overflow_add-q : goal.overflow_add-q
-overflow_add-q c = let p = c.requires in omega (arith, reading-heads p.3 (c.loop-i.invariant p.0 p.1 p.2 p.3))
-
-pub loop-i-smaller-then-i-eq0 : goal.loop-i-smaller-then-i-eq0
-loop-i-smaller-then-i-eq0 c = let p = c.requires in omega (arith, reading-heads p.3 (c.loop-i.invariant p.0 p.1 p.2 p.3))
-
-pub loop-i-preserved-then-i-eq0 : goal.loop-i-preserved-then-i-eq0
-loop-i-preserved-then-i-eq0 c = λ g old xs d.
-    reading-over d (c.loop-i.invariant g old xs d) (cc) (omega arith)
-
-pub overflow_cast-items : goal.overflow_cast-items
-overflow_cast-items c =
+pub overflow_cast-i : goal.overflow_cast-i
+overflow_cast-i c =
     let p = c.requires in
-    omega (arith, c.item_at-i.ensures, reading_small p.3 (c.loop-i.invariant p.0 p.1 p.2 p.3) (cc) (omega arith))
-
-pub offset_bounds-items-entry : goal.offset_bounds-items-entry
-offset_bounds-items-entry c =
-    let p = c.requires in
-    omega (arith, reading-items p.3 (c.loop-i.invariant p.0 p.1 p.2 p.3) (cc) (omega arith))
-
-pub bounds-items-entry : goal.bounds-items-entry
-bounds-items-entry c =
-    let p = c.requires in
-    reading-items p.3 (c.loop-i.invariant p.0 p.1 p.2 p.3) (cc) (omega arith)
+    omega (arith, reading_small p.3 (c.loop-k.invariant.4 p.0 p.1 p.2 p.3) (cc) c.in-Some-item.i (cc))
 
 pub bounds-tints-q : goal.bounds-tints-q
-bounds-tints-q c = let p = c.requires in reading-tints p.3 (c.loop-i.invariant p.0 p.1 p.2 p.3)
+bounds-tints-q c = let p = c.requires in reading-tints p.3 (c.loop-k.invariant.4 p.0 p.1 p.2 p.3)
 
-pub offset_bounds-colours-entry : goal.offset_bounds-colours-entry
-offset_bounds-colours-entry c =
+pub put-requires : goal.put-requires
+put-requires c =
     let p = c.requires in
-    omega (arith, reading-colours p.3 (c.loop-i.invariant p.0 p.1 p.2 p.3) (cc) (omega arith))
+    let b = c.loop-k.invariant.4 p.0 p.1 p.2 p.3 in
+    (reading-items p.3 b (cc) c.in-Some-item.i (cc), reading-colours p.3 b (cc) c.in-Some-item.i (cc))
 
-pub bounds-colours-entry : goal.bounds-colours-entry
-bounds-colours-entry c =
+pub overflow_add-q : goal.overflow_add-q
+overflow_add-q c = let p = c.requires in omega (arith, reading-heads p.3 (c.loop-k.invariant.4 p.0 p.1 p.2 p.3))
+
+pub loop-k-smaller : goal.loop-k-smaller
+loop-k-smaller c = let p = c.requires in omega (arith, reading-heads p.3 (c.loop-k.invariant.4 p.0 p.1 p.2 p.3))
+
+pub loop-k-preserved : goal.loop-k-preserved
+loop-k-preserved c =
+    let v = c.loop-k.invariant in
+    elim c.match-item.branch [
+      | in-Some-item w ↦ rw w.out-is (
+        writer-then v.0 w.put.ensures.lists,
+        w.put.ensures.ends ∙ v.1,
+        w.put.ensures.numbers ∙ v.2,
+        w.put.ensures.option ∙ v.3,
+        λ g old xs d. rw (w.put.ensures.items, w.put.ensures.colours, w.put.ensures.entry) (reading-one d (v.4 g old xs d) (cc) w.in-Some-item.i (cc)),
+      )
+      | in_default-item w ↦ rw w.out-is (v.0, v.1, v.2, v.3, λ g old xs d. reading-over d (v.4 g old xs d) (cc) (cc))
+    ]
+
+pub end-requires : goal.end-requires
+end-requires c =
     let p = c.requires in
-    reading-colours p.3 (c.loop-i.invariant p.0 p.1 p.2 p.3) (cc) (omega arith)
+    let v = c.loop-k.invariant in
+    let b = v.4 p.0 p.1 p.2 p.3 in
+    rw (v.1, v.2, v.3) (reading-ends p.3 b c.in-Some.k (cc), reading-numbers p.3 b c.in-Some.k (cc), reading-fits p.3 b c.in-Some.k (cc))
 
-pub overflow_add-entry : goal.overflow_add-entry
-overflow_add-entry c =
-    let p = c.requires in
-    omega (arith, reading-items p.3 (c.loop-i.invariant p.0 p.1 p.2 p.3) (cc) (omega arith))
-
-pub loop-i-preserved : goal.loop-i-preserved
-loop-i-preserved c = λ g old xs d.
-    rw c.item_at-i.ensures
-    (reading-one d (c.loop-i.invariant g old xs d) (cc) (omega arith))
-
-pub overflow_cast-ends : goal.overflow_cast-ends
-overflow_cast-ends c =
-    let p = c.requires in
-    omega (arith, reading-fits p.3 (c.loop-i.invariant p.0 p.1 p.2 p.3) (cc))
-
-pub returns : goal.returns
-returns c = λ g old xs d. rw c.option_at.ensures (reading-done d (c.loop-i.invariant g old xs d) (cc))
+pub returns-clause-option : goal.returns-clause-option
+returns-clause-option c = λ g old xs d.
+    let v = c.loop-k.invariant in
+    let e = c.end.ensures in
+    rw (e.ends, e.numbers, e.items, e.colours, e.option, e.entry, v.1, v.2, v.3) (reading-done d (v.4 g old xs d) c.in-Some.k (cc))

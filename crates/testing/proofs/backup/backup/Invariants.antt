@@ -2,13 +2,15 @@
 -- passed there.
 use Rattle.std.proofs.Common.{length}
 use Rattle.links.specs.Ground.{Ground}
+use Rattle.links.specs.Nodes.{in_nodes, SameNodes}
 use Rattle.links.specs.Way.{way_back}
 use Rattle.testing.specs.Undo.{Behind}
 use Rattle.testing.proofs.backup.backup.Given as goal
 
 abbrev pub invariant-loop-k : goal.invariant-loop-k
 invariant-loop-k l =
-    (h : Ground) → Behind h l.tints l.q l.r l.start l.fn.heads l.fn.up l.fn.down → Behind h l.tints l.k l.r l.start l.heads l.up l.down
+    SameNodes l.fn.nodes l.nodes
+    × ((h : Ground) → in_nodes (Behind h l.tints l.q l.r l.fn.nodes.start) l.fn.nodes → in_nodes (Behind h l.tints l.k l.r l.fn.nodes.start) l.nodes)
 
 abbrev pub decreases-loop-k : goal.decreases-loop-k
-decreases-loop-k l = way_back (length l.fn.heads) l.r l.k
+decreases-loop-k l = way_back (length l.fn.nodes.heads.now) l.r l.k

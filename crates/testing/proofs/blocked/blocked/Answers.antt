@@ -1,93 +1,57 @@
 -- `testing::blocked::blocked` meets its contract: the place that the walk gives says whether it came round, and the undoing starts there.
 -- Assumes nothing.
-use Rattle.std.proofs.Common.{sym, arith}
+use Rattle.std.proofs.Common.{◌-◌, sym, arith}
+use Rattle.links.specs.Nodes.{in_nodes}
+use Rattle.links.proofs.SameNodes.{same-then}
+use Rattle.testing.specs.Undo.{Behind}
 use Rattle.testing.specs.Forward.{ground_at, ground_to}
-use Rattle.testing.proofs.Entries.{row}
-use Rattle.testing.proofs.Restoring.{stopped-half, stopped-link, stopped-below, stopped-behind, lists-same}
+use Rattle.testing.proofs.Restoring.{stopped-some, stopped-half, stopped-link, stopped-below, stopped-behind, lists-same}
 use Rattle.testing.proofs.Meaning.{stopped-blocked, round-free}
 use Rattle.testing.proofs.blocked.blocked.Goals as goal
+use Rattle.testing.proofs.blocked.blocked.Goals.{After-pass_2}
 
 -- the walk came round
-pub returns-then-q-r-clause-answer : goal.returns-then-q-r-clause-answer
-returns-then-q-r-clause-answer c =
-    let a = c.args in
-    let e = c.hide_entries-place in
-    λ h w l. sym (round-free h a.tints.now a.marks.now a.r a.start a.np e.new.heads e.new.up e.new.down ((e.ensures h w l).0 c.if-q-r.true))
+pub returns-in_default-clause-answer : goal.returns-in_default-clause-answer
+returns-in_default-clause-answer c = λ h w l. sym (round-free (c.in_default.ensures.place h w l))
 
 -- the walk stopped, and is undone from there: the rival, its column, the items before
-pub overflow_sub-qq : goal.overflow_sub-qq
-overflow_sub-qq c =
-    let a = c.args in
-    let e = c.hide_entries-place in
-    let h = c.requires.0 in
-    let s = (e.ensures h c.requires.1 c.requires.2).1 c.if-q-r.false in
-    let rival = row h a.tints.now a.marks.now a.r a.start a.np e.new.heads e.new.up e.new.down e.result.q e.result.p e.result.qq s.inner in
-    omega (arith, s.inner.from, rival.from, c.requires.1.tested.tidy.planned.from (h.plan.number e.result.p) rival.option)
+pub overflow_sub-place : goal.overflow_sub-place
+overflow_sub-place c = omega (arith, stopped-some (c.in-Some.ensures.place c.requires.0 c.requires.1 c.requires.2))
 
 pub unhide_entries-requires : goal.unhide_entries-requires
 unhide_entries-requires c =
-    let a = c.args in
-    let e = c.hide_entries-place in
     let h = c.requires.0 in
-    let s = (e.ensures h c.requires.1 c.requires.2).1 c.if-q-r.false in
-    (ground_to h a.r e.result.q e.result.p, stopped-half h a.tints.now a.marks.now a.r a.start a.np e.new.heads e.new.up e.new.down e.result.q e.result.p e.result.qq s)
+    let place = c.in-Some.place in
+    (ground_to h c.args.r place.q place.p, stopped-half (c.in-Some.ensures.place h c.requires.1 c.requires.2))
 
-pub link-above-requires : goal.link-above-requires
-link-above-requires c =
-    let a = c.args in
-    let e = c.hide_entries-place in
-    let u = c.unhide_entries in
-    let h = c.requires.0 in
-    let s = (e.ensures h c.requires.1 c.requires.2).1 c.if-q-r.false in
-    let rival_back = u.ensures (ground_to h a.r e.result.q e.result.p) (stopped-half h a.tints.now a.marks.now a.r a.start a.np e.new.heads e.new.up e.new.down e.result.q e.result.p e.result.qq s) in
-    stopped-link h a.tints.now a.marks.now a.r a.start a.np e.new.heads e.new.up e.new.down e.result.q e.result.p e.result.qq s u.new.heads u.new.up u.new.down rival_back
+pub above-above-requires : goal.above-above-requires
+above-above-requires c =
+    let s = c.in-Some.ensures.place c.requires.0 c.requires.1 c.requires.2 in
+    stopped-link s (c.unhide_entries.ensures.undone _ (stopped-half s))
 
 pub pass_2-requires : goal.pass_2-requires
 pass_2-requires c =
-    let a = c.args in
-    let e = c.hide_entries-place in
-    let u = c.unhide_entries in
     let h = c.requires.0 in
-    let s = (e.ensures h c.requires.1 c.requires.2).1 c.if-q-r.false in
-    let rival_back = u.ensures (ground_to h a.r e.result.q e.result.p) (stopped-half h a.tints.now a.marks.now a.r a.start a.np e.new.heads e.new.up e.new.down e.result.q e.result.p e.result.qq s) in (
-      ground_at h a.r e.result.q,
-      stopped-below h a.tints.now a.marks.now a.r a.start a.np e.new.heads e.new.up e.new.down e.result.q e.result.p e.result.qq s u.new.heads u.new.up u.new.down rival_back
-          c.link-above.result c.tint_at-x.result c.link-above.ensures c.tint_at-x.ensures,
+    let s = c.in-Some.ensures.place h c.requires.1 c.requires.2 in (
+      ground_at h c.args.r c.in-Some.place.q,
+      rw (same-then c.hide_entries.ensures.nodes c.unhide_entries.ensures.nodes).start
+          (stopped-below s (c.unhide_entries.ensures.undone _ (stopped-half s)) c.above-above.ensures.node),
     )
 
+-- what `backup` finds
+behind : (c : After-pass_2) → in_nodes (Behind c.requires.0 c.args.tints.now (c.in-Some.place.q - 1) c.args.r c.pass_2.new.nodes.start) c.pass_2.new.nodes
+behind c =
+    let s = c.in-Some.ensures.place c.requires.0 c.requires.1 c.requires.2 in
+    let same = same-then c.hide_entries.ensures.nodes c.unhide_entries.ensures.nodes in
+    rw (same-then same c.pass_2.ensures.nodes).start
+    (stopped-behind s
+    (c.pass_2.ensures.undone _ (rw same.start (stopped-below s (c.unhide_entries.ensures.undone _ (stopped-half s)) c.above-above.ensures.node))))
+
 pub backup-requires-2 : goal.backup-requires-2
-backup-requires-2 c =
-    let a = c.args in
-    let e = c.hide_entries-place in
-    let u = c.unhide_entries in
-    let v = c.pass_2 in
-    let h = c.requires.0 in
-    let s = (e.ensures h c.requires.1 c.requires.2).1 c.if-q-r.false in
-    let rival_back = u.ensures (ground_to h a.r e.result.q e.result.p) (stopped-half h a.tints.now a.marks.now a.r a.start a.np e.new.heads e.new.up e.new.down e.result.q e.result.p e.result.qq s) in
-    let column_back = v.ensures (ground_at h a.r e.result.q)
-    (stopped-below h a.tints.now a.marks.now a.r a.start a.np e.new.heads e.new.up e.new.down e.result.q e.result.p e.result.qq s u.new.heads u.new.up u.new.down rival_back
-    c.link-above.result c.tint_at-x.result c.link-above.ensures c.tint_at-x.ensures) in
-    (h, stopped-behind h a.tints.now a.marks.now a.r a.start a.np e.new.heads e.new.up e.new.down e.result.q e.result.p e.result.qq s v.new.heads v.new.up v.new.down column_back)
+backup-requires-2 c = (c.requires.0, behind (goal.at.backup-requires-2 c).After-pass_2)
 
 pub returns-clause-same : goal.returns-clause-same
-returns-clause-same c =
-    let a = c.args in
-    let e = c.hide_entries-place in
-    let u = c.unhide_entries in
-    let v = c.pass_2 in
-    let h = c.requires.0 in
-    let s = (e.ensures h c.requires.1 c.requires.2).1 c.if-q-r.false in
-    let rival_back = u.ensures (ground_to h a.r e.result.q e.result.p) (stopped-half h a.tints.now a.marks.now a.r a.start a.np e.new.heads e.new.up e.new.down e.result.q e.result.p e.result.qq s) in
-    let column_back = v.ensures (ground_at h a.r e.result.q)
-    (stopped-below h a.tints.now a.marks.now a.r a.start a.np e.new.heads e.new.up e.new.down e.result.q e.result.p e.result.qq s u.new.heads u.new.up u.new.down rival_back
-    c.link-above.result c.tint_at-x.result c.link-above.ensures c.tint_at-x.ensures) in
-    lists-same c.requires.2
-    (c.backup-2.ensures h
-    (stopped-behind h a.tints.now a.marks.now a.r a.start a.np e.new.heads e.new.up e.new.down e.result.q e.result.p e.result.qq s v.new.heads v.new.up v.new.down column_back))
+returns-clause-same c = lists-same c.requires.2 (c.backup-2.ensures.undone c.requires.0 (behind (goal.at.returns-clause-same c).After-pass_2))
 
 pub returns-clause-answer : goal.returns-clause-answer
-returns-clause-answer c =
-    let a = c.args in
-    let e = c.hide_entries-place in
-    λ h w l.
-    sym (stopped-blocked h a.tints.now a.marks.now a.r a.start a.np e.new.heads e.new.up e.new.down e.result.q e.result.p e.result.qq ((e.ensures h w l).1 c.if-q-r.false))
+returns-clause-answer c = λ h w l. sym (stopped-blocked (c.in-Some.ensures.place h w l))

@@ -1,56 +1,43 @@
 -- `testing::unhide_entries::unhide_entries` meets its contract: at each place the lists are those of the ground without what the walk had
 -- passed there. Assumes nothing.
 use Rattle.std.proofs.Common.{◌∙◌, sym, length}
+use Rattle.links.proofs.SameNodes.{same-then}
 use Rattle.testing.proofs.Round.{half_in, half-done, half_over, half-over-way, half-more, half-relink, half_back}
 use Rattle.testing.proofs.unhide_entries.unhide_entries.Goals as goal
 
-pub item_at-cc-requires : goal.item_at-cc-requires
-item_at-cc-requires c =
-    let g = c.requires.0 in
-    let l = c.loop-k in
-    (half_in g c.args.p l.k l.heads l.up l.down (l.invariant g c.requires.1)).0
+pub item-requires : goal.item-requires
+item-requires c = (half_in (c.loop-k.invariant.1 c.requires.0 c.requires.1)).0
 
-pub link-k-requires : goal.link-k-requires
-link-k-requires c =
-    let g = c.requires.0 in
-    let l = c.loop-k in
-    (half_in g c.args.p l.k l.heads l.up l.down (l.invariant g c.requires.1)).1
+pub below-k-requires : goal.below-k-requires
+below-k-requires c = (half_in (c.loop-k.invariant.1 c.requires.0 c.requires.1)).1
 
-pub loop-k-smaller-then-cc-eq0 : goal.loop-k-smaller-then-cc-eq0
-loop-k-smaller-then-cc-eq0 c =
-    let g = c.requires.0 in
+pub loop-k-smaller-in-None : goal.loop-k-smaller-in-None
+loop-k-smaller-in-None c =
     let l = c.loop-k in
-    rw c.link-k.ensures
-    (half-over-way g c.args.p l.k l.heads l.up l.down (l.invariant g c.requires.1) c.loop-k-test.true (sym c.item_at-cc.ensures ∙ c.if-cc-eq0.true) (length c.args.heads.now) l.auto.heads)
+    rw c.below-k.ensures.node
+    (half-over-way (l.invariant.1 c.requires.0 c.requires.1) c.loop-k-test.true (sym c.in-None.is ∙ c.item.ensures) (length c.args.nodes.now.heads.now) l.invariant.0.heads-long)
 
-pub loop-k-preserved-then-cc-eq0 : goal.loop-k-preserved-then-cc-eq0
-loop-k-preserved-then-cc-eq0 c =
+pub loop-k-preserved-in-None : goal.loop-k-preserved-in-None
+loop-k-preserved-in-None c =
     let l = c.loop-k in
-    λ g m.
-    rw c.link-k.ensures (half_over g c.args.p l.k l.heads l.up l.down (l.invariant g m) c.loop-k-test.true (sym c.item_at-cc.ensures ∙ c.if-cc-eq0.true))
+    (l.invariant.0, λ g m. rw c.below-k.ensures.node (half_over (l.invariant.1 g m) c.loop-k-test.true (sym c.in-None.is ∙ c.item.ensures)))
 
 pub more-requires : goal.more-requires
-more-requires c =
-    let g = c.requires.0 in
-    let l = c.loop-k in
-    rw (← c.item_at-cc.ensures) at
-    (half-more g c.args.p l.k l.heads l.up l.down (l.invariant g c.requires.1) c.loop-k-test.true (λ e. c.if-cc-eq0.false (c.item_at-cc.ensures ∙ e)))
+more-requires c = half-more (c.loop-k.invariant.1 c.requires.0 c.requires.1) c.loop-k-test.true (sym c.in-Some.is ∙ c.item.ensures)
 
 pub relink-requires : goal.relink-requires
 relink-requires c =
-    let g = c.requires.0 in
-    let l = c.loop-k in
-    half-relink g c.args.p l.k l.heads l.up l.down (l.invariant g c.requires.1) c.loop-k-test.true (λ e. c.if-cc-eq0.false (c.item_at-cc.ensures ∙ e))
+    rw (c.more.ensures.up, c.more.ensures.down)
+    (half-relink (c.loop-k.invariant.1 c.requires.0 c.requires.1) c.loop-k-test.true (sym c.in-Some.is ∙ c.item.ensures))
 
 pub loop-k-preserved : goal.loop-k-preserved
 loop-k-preserved c =
-    let l = c.loop-k in
-    λ g m.
-    rw (c.more.ensures, c.relink.ensures.0, c.relink.ensures.1)
-    (rw (← c.item_at-cc.ensures) at
-    (half_back g c.args.p l.k l.heads l.up l.down (l.invariant g m) c.loop-k-test.true (λ e. c.if-cc-eq0.false (c.item_at-cc.ensures ∙ e))))
+    let l = c.loop-k in (
+      same-then (same-then l.invariant.0 c.more.ensures.nodes) c.relink.ensures.nodes,
+      λ g m.
+          rw (c.relink.ensures.heads, c.relink.ensures.up, c.relink.ensures.down, c.more.ensures.heads, c.more.ensures.up, c.more.ensures.down)
+          (half_back (l.invariant.1 g m) c.loop-k-test.true (sym c.in-Some.is ∙ c.item.ensures)),
+    )
 
-pub returns : goal.returns
-returns c =
-    let l = c.loop-k in
-    λ g m. half-done g c.args.p l.k l.heads l.up l.down (l.invariant g m) c.loop-k-test.false
+pub returns-clause-undone : goal.returns-clause-undone
+returns-clause-undone c = λ g m. half-done (c.loop-k.invariant.1 g m) c.loop-k-test.false

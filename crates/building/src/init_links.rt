@@ -1,0 +1,40 @@
+// The building of the nodes.
+ghost use Rattle.std.specs.Prelude.{◌≡◌, ℕ, length};
+ghost use Rattle.rules.specs.Problem.{Figures, problem_of};
+ghost use Rattle.links.specs.Nodes.{in_nodes, SameNodes};
+ghost use Rattle.building.specs.Build.{Buildable, Built};
+
+use crate::clear::clear_headers;
+use crate::close::close_columns;
+use crate::option::put_option;
+use links::nodes::Nodes;
+use rules::lent::Given;
+
+// All of it: headers, and the options in their order. An option without a primary item keeps its number and gets no nodes.
+pub fn init_links(nodes: &mut Nodes, tints: &mut [u32], marks: &mut [u32], given: &Given<u32>)
+    requires { (f : Figures) × (ns : ℕ) × in_nodes (Buildable f nodes.old.np ns nodes.old.n given.now.items.now given.now.colours.now given.now.ends.now)
+        nodes.old tints.old marks.old }
+    ensures nodes { SameNodes nodes.old nodes.new }
+    ensures lists { (f : Figures) (ns : ℕ)
+        → in_nodes (Buildable f nodes.old.np ns nodes.old.n given.now.items.now given.now.colours.now given.now.ends.now)
+        nodes.old tints.old marks.old
+        → in_nodes (Built (problem_of nodes.old.np ns given.now.items.now given.now.colours.now given.now.ends.now) nodes.old.n (length given.now.ends.now))
+        nodes.new tints.new marks.new }
+{
+    clear_headers(nodes, marks);
+    let mut p = nodes.n + 1;
+    let mut begin = 0;
+    for (k, &end) in given.ends.iter().enumerate() {
+        let end = end as usize;
+        p = put_option(
+            nodes,
+            tints,
+            k as u32,
+            p,
+            &given.items[begin..end],
+            &given.colours[begin..end],
+        );
+        begin = end;
+    }
+    close_columns(nodes);
+}

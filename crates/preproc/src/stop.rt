@@ -1,0 +1,24 @@
+// What stops the rounds.
+ghost use Rattle.std.specs.Prelude.{◌≡◌, ℕ};
+ghost use Rattle.links.specs.Ending.{ending};
+ghost use Rattle.preproc.specs.Stopping.{stopping};
+
+use links::emptied::Emptied;
+use rules::answer::Cause;
+
+// A primary item that is left in no option, by the number of its column, and why.
+#[derive(Clone, Copy, Debug, PartialEq, Eq)]
+pub struct Stop {
+    pub column: usize,
+    pub cause: Cause,
+}
+
+// The cause of what a deletion or a removal empties.
+pub fn because(ended: Result<(), Emptied>, cause: Cause) -> Result<(), Stop>
+    ensures { (z : ℕ) → ended ≡ ending z → result ≡ stopping z cause }
+{
+    ended.map_err(|emptied| Stop {
+        column: emptied.column,
+        cause,
+    })
+}
