@@ -57,7 +57,7 @@ fn check_option(
     ensures answer { refusal_in result ≡ check_option limits.np limits.n limits.colour a [] (slice a b (entries_of items.now colours.now)) }
     ensures marks { Below (mark + 1) marks.new }
 {
-    // by place, since a refusal names the place
+    // by place, since a refusal names the place: a zip of both lists with it would be no plainer
     for j in a..b {
         let item = items[j];
         check_entry(limits, j as u32, &*marks, mark, item, colours[j])?;
@@ -76,7 +76,7 @@ pub fn check_entries(
     requires { Checkable limits.n items.now colours.now ends.now }
     ensures { refusal_in result ≡ check_options limits.np limits.n limits.colour 0 (cut 0 ends.now (entries_of items.now colours.now)) }
 {
-    // fixed memory: a mark for each item that the figures allow, a number, with 0 for none
+    // fixed memory: a mark for each item that the figures allow, a number, with 0 for none: an `Option` would take twice the room
     let mut marks = [0u32; 1024];
     let mut begin = 0;
     for (k, end) in ends.iter().enumerate() {

@@ -30,6 +30,7 @@ fn test_at(
         → in_nodes (Trying g i r nodes.old.start nodes.old.np z) nodes.old tints.old marks.old
         → (w : ℕ) × (result ≡ column w) × Tried g i nodes.old.np (r + 1) w tints.new marks.new }
 {
+    // 0 is no colour, as C lends the list
     if tints[r] != 0 {
         return stack;
     }
@@ -79,6 +80,7 @@ pub fn delete_condemned(
         → (w : ℕ) × (result ≡ ending w) × in_nodes (Deleted g nodes.old.np (deletes g (down_to (condemned_at nodes.old.np i g) g.plan.N))) nodes.new w }
 {
     let mut next = stack;
+    // along the chain, which is known link by link
     while let Some(r) = next {
         really_delete_option(nodes, r)?;
         next = chained(tints, nodes.lead(r));

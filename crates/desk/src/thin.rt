@@ -15,7 +15,8 @@ use rules::lent::{Given, Results};
 use rules::problem::Figures;
 use words::count;
 
-// The figures of the desk: 64 items, 256 options and 1,024 entries; colours as elsewhere.
+// The figures of the desk: 64 items, 256 options and 1,024 entries; colours as elsewhere. A function beside `Problem::figures`, since the clause of each
+// says which of the paper's figures it gives.
 pub fn desk_figures() -> Figures
     ensures { figures_of result ≡ desk_figures }
 {
@@ -56,6 +57,7 @@ pub fn thin(given: &Given<u32>, results: &mut Results<u8>) -> Answer
     if let Err(refused) = checked {
         return Answer::Refused(refused);
     }
+    // fixed memory: as much as the figures allow
     let mut kept = [0u32; 64];
     let mut ends = [0u32; 256];
     let mut numbers = [0u32; 256];

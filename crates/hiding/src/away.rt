@@ -46,6 +46,7 @@ pub fn hide(nodes: &mut Nodes, tints: &[u32], c: usize) -> Option<usize>
     let mut rr = nodes.below(c);
     // down the column's links
     while rr >= nodes.start {
+        // 0 is no colour, as C lends the list
         if tints[rr] == 0 {
             stack = hide_option(nodes, rr, stack);
         }

@@ -41,6 +41,7 @@ pub fn unhide(nodes: &mut Nodes, tints: &[u32], c: usize)
     let mut rr = nodes.below(c);
     // down the column's links
     while rr >= nodes.start {
+        // 0 is no colour, as C lends the list
         if tints[rr] == 0 {
             unhide_option(nodes, rr);
         }

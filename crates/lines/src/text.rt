@@ -5,6 +5,7 @@ ghost use Rattle.lines.specs.Text.{First};
 pub fn find(t: &[u8], from: usize, b: u8) -> Option<usize>
     ensures { First b from t.now result }
 {
+    // over the places, since they count from the text's begin
     (from..t.len()).find(|k| t[*k] == b)
 }
 

@@ -31,6 +31,7 @@ pub fn uncovered(nodes: &Nodes) -> Option<usize>
     requires { (g : Ground) × Looking g nodes.now.np nodes.now.heads.now }
     ensures { (g : Ground) → Looking g nodes.now.np nodes.now.heads.now → result ≡ column (column_or 0 (uncovered_in nodes.now.np (state_of g))) }
 {
+    // half open, since the library's law on `find` is of such ranges
     (1..nodes.np + 1).find(|c| nodes.is_empty(*c))
 }
 

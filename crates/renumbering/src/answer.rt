@@ -27,7 +27,7 @@ impl Unnumbered {
         }
     }
 
-    // The place that goes with it.
+    // The place that goes with it; document 01 gives 0 where no item is at fault.
     pub fn place(self) -> usize
         ensures { result ≡ (refused self).place }
     {

@@ -20,6 +20,7 @@ pub fn write<N: Numeral, C: Cell, F: Fn(u32, u32) -> u32>(
     requires callable { AskedOfEach (map N.value kept.now) (F.pre number) }
     ensures { (f : ℕ → ℕ) → Numbers (map N.value kept.now) (F.post number) f → out.new ≡ written (each C.cells (map f (map N.value items.now))) out.old }
 {
+    // by place, as `Cell::put` writes: of the elements nothing is known once an `iter_mut` is over
     for (k, item) in items.iter().enumerate() {
         let i = item.number();
         let place = find(kept, i).unwrap();

@@ -22,6 +22,7 @@ fn behind_lists<'a>(stored: &'a [u32], lists: Lists, primaries: u32) -> Option<&
         .strip_prefix(lists.numbers)?
         .strip_prefix(lists.items)?
         .strip_prefix(lists.colours)?;
+    // fixed memory: as much as a stored answer takes
     let mut out = [0u32; 1024];
     crate_numbers(lists.kept, primaries, lists.items, &mut out).ok()?;
     rest.strip_prefix(front(&out, lists.items.len()))
@@ -39,6 +40,7 @@ fn behind<'a>(stored: &'a [u32], answer: Answer, lists: Lists) -> Option<&'a [u3
             settled,
         } => {
             let settled = u32::from(settled);
+            // 0 and 1 are document 01's numbers of an answer, as they are stored
             let values = [0, primaries, secondaries, options, entries, rounds, settled];
             let rest = stored.strip_prefix(&values)?;
             let result = Lists {

@@ -27,6 +27,7 @@ fn differs(line: &[u8], tally: &mut Tally) {
 
 // A problem and the stored answer.
 fn judge(line: &[u8], tally: &mut Tally) {
+    // fixed memory: as much as a stored line takes
     let mut l = [0u32; 2048];
     let stored = Stored::new(list(line, &mut l));
     if !stored.agrees() {

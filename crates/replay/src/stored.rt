@@ -26,6 +26,7 @@ impl<'a> Stored<'a> {
         let (colours, rest) = list(rest);
         let (ends, answer) = list(rest);
         Stored {
+            // the line says it by a number: 0 the Rust, else the rules
             by: if number_at(line, 0) == 0 {
                 Heading::ByRust
             } else {
@@ -53,7 +54,7 @@ impl<'a> Stored<'a> {
         self.by
     }
 
-    // Which outcome is stored.
+    // Which outcome is stored. It is stored in numbers, as document 01 has them: 0 reduced, with settled at place 6, 1 infeasible, with the cause at place 2.
     pub(crate) fn outcome(self) -> Option<Heading> {
         match number_at(self.answer, 0) {
             0 if number_at(self.answer, 6) == 1 => Some(Heading::Settled),

@@ -53,6 +53,7 @@ fn lengths_of(t: &[u8]) -> Lengths {
 
 // The problem that four fields write, and its run.
 fn problem(counts: &[u8], items: &[u8], colours: &[u8], ends: &[u8], lent: Lengths) {
+    // fixed memory: as long as any case
     let mut i = [0u32; 16385];
     let mut c = [0u32; 16385];
     let mut e = [0u32; 4097];
@@ -95,6 +96,7 @@ pub(crate) fn line(t: &[u8]) {
     say::bytes(t);
     if t.is_empty() || t.starts_with(b"#") {
         say::line("");
+        // by the letter, which the input writes
     } else if rule::mark(field(t, 1)) == Some(b'r') {
         renumber(field(t, 1), field(t, 2), field(t, 3), field(t, 4));
     } else {

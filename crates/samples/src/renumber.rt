@@ -18,6 +18,7 @@ fn outcome(name: &str, answer: Result<(), Unnumbered>, n: usize, out: &[u32]) ->
 
 // Both calls on one input, with lists for the outcome of this length.
 fn both(kept: &[u32], primaries: u32, items: &[u32], length: usize) {
+    // fixed memory, here and below: as long as any case
     let mut a = [PATTERN; 16];
     let mut b = [PATTERN; 16];
     let x = compact(kept, primaries, items, part(&mut a, length));

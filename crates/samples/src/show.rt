@@ -44,6 +44,7 @@ impl fmt::Display for Answered {
                 rounds,
                 settled,
             } => {
+                // 0 and 1 are document 01's numbers of an answer
                 let settled = u32::from(settled);
                 write!(
                     f,

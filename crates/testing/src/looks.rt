@@ -6,7 +6,7 @@ ghost use Rattle.testing.specs.Stops.{stops_at};
 
 use links::nodes::Nodes;
 
-// Two entries of one item clash unless they have one equal colour above 0.
+// Two entries of one item clash unless they have one equal colour above 0: 0 is no colour, as C lends the list.
 pub fn clash(x: u32, y: u32) -> bool
     ensures { result ≡ not (agree x y) }
 {

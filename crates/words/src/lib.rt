@@ -55,6 +55,7 @@ pub fn write_words(words: &[u32], count: usize, bytes: &mut [u8])
     requires { (count ≤ length words.now) × (4 * count ≤ length bytes.old) }
     ensures { bytes.new ≡ written (bytes_of (take count words.now)) bytes.old }
 {
+    // by place, as in `read_words`
     for (k, word) in words[..count].iter().enumerate() {
         u8::put(&mut *bytes, k, *word);
     }
