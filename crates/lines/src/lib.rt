@@ -1,4 +1,4 @@
-// What the programs that run the calls share: places of a text and its lines, the numbers in it, fronts of lists, and what is written to standard output.
+// What the programs that run the calls share: places of a text, the numbers in it, fronts of lists, and what is written to standard output.
 #![tactic(auto)]
 
 pub mod numbers;

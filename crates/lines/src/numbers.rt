@@ -30,7 +30,7 @@ fn is_entry(run: &&[u8]) -> bool {
 }
 
 // How many entries a text has.
-pub fn count(t: &[u8]) -> usize {
+fn count(t: &[u8]) -> usize {
     t.split(is_apart).filter(is_entry).count()
 }
 

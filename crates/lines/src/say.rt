@@ -1,4 +1,5 @@
-// What is written to standard output, piece by piece, over the library that the input is read by. A write that fails is passed over.
+// What is written to standard output, piece by piece, over the library that the input is read by. A write that fails is passed over:
+// so nothing comes back of which a clause could tell.
 use std::fmt::{self, Display, Write};
 
 #[derive(Clone, Copy)]
@@ -14,12 +15,6 @@ impl Write for Out {
 pub fn text<D: Display + Drop>(value: D) {
     let mut out = Out;
     let _ = out.write(value);
-}
-
-// A text and a line's end.
-pub fn line<D: Display + Drop>(value: D) {
-    let mut out = Out;
-    let _ = out.writeln(value);
 }
 
 pub fn bytes(t: &[u8]) {

@@ -22,7 +22,8 @@ const WHOLE: Lengths = Lengths {
 
 // The lengths of the lists that are lent, in the order of the call.
 fn lengths_of(t: &[u8]) -> Lengths {
-    if numbers::count(t) == 0 {
+    // into no list: only how many there are is asked
+    if numbers::entries(t, &mut []) == 0 {
         return WHOLE;
     }
     let [
@@ -95,7 +96,7 @@ fn call(t: &[u8]) {
 pub(crate) fn line(t: &[u8]) {
     say::bytes(t);
     if t.is_empty() || t.starts_with(b"#") {
-        say::line("");
+        say::text("\n");
         // by the letter, which the input writes
     } else if rule::mark(field(t, 1)) == Some(b'r') {
         renumber(field(t, 1), field(t, 2), field(t, 3), field(t, 4));

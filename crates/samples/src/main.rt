@@ -22,10 +22,18 @@ mod rule;
 mod run;
 mod show;
 
-use lines::text::each_line;
+// Line by line: what no line end follows is no line.
+// (The other program has such a loop too: as a function of both it would take a closure, and no clause could tell of its calls.)
+fn cases(t: &[u8]) {
+    for line in t.split_inclusive(|b| *b == b'\n') {
+        if let Some(case) = line.strip_suffix(b"\n") {
+            case::line(case);
+        }
+    }
+}
 
 fn main() {
     let mut text = io::large_buffer();
     let n = io::read_full(0, &mut text);
-    each_line(&text[..n], case::line);
+    cases(&text[..n]);
 }

@@ -26,7 +26,7 @@ fn both(kept: &[u32], primaries: u32, items: &[u32], length: usize) {
     let c = outcome(" -> compact", x, items.len(), &a);
     let d = outcome("; crate's", y, items.len(), &b);
     let ok = if c & d { "; ok" } else { "" };
-    say::line(ok);
+    say::text(format_args!("{ok}\n"));
 }
 
 // The fields are the count of primaries, the kept list, the items and the length of the list for the outcome.

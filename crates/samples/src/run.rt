@@ -31,5 +31,5 @@ pub(crate) fn run(given: lent::Given<u32>, lengths: Lengths) {
         room: &room,
         results: &results,
     };
-    say::line(report);
+    say::text(format_args!("{report}\n"));
 }
