@@ -1,6 +1,7 @@
 -- Laying out the nodes of a plan one after another: from cleared headers, entry by entry, boundary by boundary, until the lists are tidy.
 -- Assumes nothing.
 use Rattle.std.proofs.Common.{◌≡◌, ℕ, ◌+◌, ◌-◌, ◌<◌, ◌≤◌, Bool, true, false, ◌≢◌, List, length, set, ℤ, pos, negsuc, sym, refl, ap, ◌∙◌, subst, inl, inr, ⊎_elim, arith, length-set, get_or-set_other, get_or-set_same, lt-length-set}
+use Rattle.rules.specs.Bounds.{node_bound}
 use Rattle.links.specs.Head.{item_of, below_zero, head, Growing}
 use Rattle.links.specs.Column.{at, without, Tied, Ring}
 use Rattle.links.specs.Plan.{Plan, start, EntryOf, Header, Planned}
@@ -170,7 +171,7 @@ module _ (P : Plan) (W : Planned P) where
       }
 
       -- what putting it there asks of the lists
-      pub entry-small : (P.col x < 1048576) × (x < 1048576) × (at up (P.col x) < 1048576)
+      pub entry-small : (P.col x < node_bound) × (x < node_bound) × (at up (P.col x) < node_bound)
       entry-small =
           let a = (L.ring.tied (at up (P.col x)) (L.ring.tied (P.col x) c-on).above_on).inside in
           (omega (arith, before, inside, W.small), omega (arith, inside, W.small), omega (arith, a, W.small))

@@ -1,5 +1,6 @@
 -- The plan of a state: where its options lie, that it is a plan, and that it shows the state. Assumes nothing.
 use Rattle.std.proofs.Common.{◌≡◌, ℕ, zero, suc, ◌+◌, ◌-◌, ◌<◌, ◌≤◌, T, List, [], ◌∷◌, map, length, get_or, sym, refl, ap, ◌∙◌, subst, ⊎_elim, arith, le-ltb, lt-ltb}
+use Rattle.rules.specs.Bounds.{node_bound}
 use mathlib.Core.List.{Memᴰ as In}
 use lib.ListN.{get_or-eq_default, get_or-map, length-map}
 use Rattle.rules.specs.Lists.{from}
@@ -73,7 +74,7 @@ map_row d f i (x ∷ l) h =
     rw (a, map_row d f (suc i) l (λ k m. let e : suc i + k ≡ i + suc k = omega arith in ap f e ∙ h (suc k) (omega arith)))
 
 -- A state of n items, in which no option holds an item twice.
-module _ (n : ℕ) (s : State) (small : first_node (n + 2) s (length s) < 1048576) (few : length s < 1048576)
+module _ (n : ℕ) (s : State) (small : first_node (n + 2) s (length s) < node_bound) (few : length s < node_bound)
     (items-below : (o : List Entry) → In o s → (e : Entry) → In e o → e.item < n) (once : (o : List Entry) → In o s → T (distinct (items_of o))) where
   option-in : (k : ℕ) → k < length s → In (option_at s k) s
   option-in k h = get_or-In s k [] h

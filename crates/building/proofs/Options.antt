@@ -1,6 +1,7 @@
 -- Laying out the options of what was handed in, one after another: the plan of the problem is a plan, each option's turn comes where the
 -- plan has it, and behind the last one the lists hold the problem. Assumes nothing.
 use Rattle.std.proofs.Common.{◌≡◌, ℕ, ◌+◌, ◌-◌, ◌<◌, ◌≤◌, Bool, true, false, cond, T, List, [], ◌∷◌, map, length, get_or, ℤ, sym, refl, ap, ◌∙◌, subst, add-one, arith, length-append}
+use Rattle.rules.specs.Bounds.{node_bound}
 use mathlib.Core.List.Memᴰ.{not-nil}
 use mathlib.Core.List.{Memᴰ as In}
 use lib.ListN.{length-map}
@@ -52,7 +53,7 @@ start_has a Q nil h o m = let w = In-map (start_of a.np) a.options m in subst Q 
     go x i false = nil
 
 -- Where the loop over the options stands: option k is next, its entries begin where those before it end, and the plan has it behind boundary p.
-pub record Place (np ns : ℕ) (items colours ends : List ℕ) (heads : List ℤ) (up down tints : List ℕ) (p begin k : ℕ) : Type 0 where
+pub record AtOption (np ns : ℕ) (items colours ends : List ℕ) (heads : List ℤ) (up down tints : List ℕ) (p begin k : ℕ) : Type 0 where
   pub within : k ≤ length ends
   pub from : begin ≡ end_before 0 ends k
   pub first : (plan_of (problem_of np ns items colours ends)).first k ≡ p + 1
@@ -86,11 +87,11 @@ module _ {f : Figures} {np ns n : ℕ} {items colours ends : List ℕ} {heads₀
       let w : length (each (λ o. o) c) ≡ length items = ap length (cut-whole ends (entries_of items colours) (rw many B.ends-rise)) ∙ many in
       omega (arith, r, w, length_cut 0 ends (entries_of items colours), B.total)
 
-  few-nodes : first_node (a.n + 2) (starting a) (length (starting a)) < 1048576
+  few-nodes : first_node (a.n + 2) (starting a) (length (starting a)) < node_bound
   unfolding plan_for
   few-nodes = omega (arith, nodes, B.small)
 
-  few-options : length (starting a) < 1048576
+  few-options : length (starting a) < node_bound
   few-options = omega (arith, length-s, B.small)
 
   items-below : (o : List Entry) → In o (starting a) → (e : Entry) → In e o → e.item < a.n
@@ -108,7 +109,7 @@ module _ {f : Figures} {np ns n : ℕ} {items colours ends : List ℕ} {heads₀
 
   -- The headers are cleared: option 0 is next.
   pub place-begin : {heads : List ℤ} {up down marks : List ℕ} → length heads ≡ length heads₀ → length up ≡ length up₀ → length down ≡ length down₀
-      → Cleared n heads up down marks → Place np ns items colours ends heads up down tints₀ (n + 1) 0 0
+      → Cleared n heads up down marks → AtOption np ns items colours ends heads up down tints₀ (n + 1) 0 0
   place-begin {heads} {up} {down} {marks} h u d c = record { within = omega arith; from = refl; first = zero-first; so_far = open-laid (plan_of a) 0 (n + 1 + 1) (rw (sym e) all-clear) }
     where
       e : start (plan_of a) ≡ n + 1 + 1
@@ -120,7 +121,7 @@ module _ {f : Figures} {np ns n : ℕ} {items colours ends : List ℕ} {heads₀
           (omega (arith, nodes, B.heads-room, h)) (omega (arith, nodes, B.up_room, u)) (omega (arith, nodes, B.down-room, d)) (omega (arith, nodes, B.tints-room))
 
   -- Option k, where it is next.
-  module _ {heads : List ℤ} {up down tints : List ℕ} {p begin k : ℕ} (here : Place np ns items colours ends heads up down tints p begin k) (more : k < length ends) where
+  module _ {heads : List ℤ} {up down tints : List ℕ} {p begin k : ℕ} (here : AtOption np ns items colours ends heads up down tints p begin k) (more : k < length ends) where
     rising : (begin ≤ at ends k) × (at ends k ≤ length items)
     rising = rw here.from (ends_at (check16→ (length items) ends B.ends-rise).0 k more)
 
@@ -210,7 +211,7 @@ module _ {f : Figures} {np ns n : ℕ} {items colours ends : List ℕ} {heads₀
 
     pub place-next : {m r : ℕ} → m ≡ np → r ≡ behind m p its → {heads' : List ℤ} {up' down' tints' : List ℕ}
         → ((P : Plan) → Turn P m k p its shades heads up down tints → Open P 0 (r + 1) heads' up' down' tints')
-        → Place np ns items colours ends heads' up' down' tints' r (at ends k) (k + 1)
+        → AtOption np ns items colours ends heads' up' down' tints' r (at ends k) (k + 1)
     place-next e q L = record {
       within = omega arith;
       from = sym (ap (end_before 0 ends) (add-one k));
@@ -219,7 +220,7 @@ module _ {f : Figures} {np ns n : ℕ} {items colours ends : List ℕ} {heads₀
     }
 
   -- Behind the last option the lists hold the problem.
-  module _ {heads : List ℤ} {up down tints : List ℕ} {p begin k : ℕ} (here : Place np ns items colours ends heads up down tints p begin k) (stop : length ends ≤ k) where
+  module _ {heads : List ℤ} {up down tints : List ℕ} {p begin k : ℕ} (here : AtOption np ns items colours ends heads up down tints p begin k) (stop : length ends ≤ k) where
     all_there : p + 1 ≡ (plan_of a).N
     unfolding plan_for
     all_there = let e : k ≡ length (starting a) = omega (arith, here.within, length-s) in sym here.first ∙ ap (first_node (a.n + 2) (starting a)) e
@@ -228,7 +229,7 @@ module _ {f : Figures} {np ns n : ℕ} {items colours ends : List ℕ} {heads₀
     all-open = rw all_there at here.so_far
 
     -- what closing the columns asks for
-    pub place-closes : (n < 1048576) × (n < length up) × ((i : ℕ) → i < n → at up (i + 1) < length down)
+    pub place-closes : (n < node_bound) × (n < length up) × ((i : ℕ) → i < n → at up (i + 1) < length down)
     place-closes = (
       omega (arith, B.small),
       omega (arith, all-open.laid.ring.ups, planned.room, n-is),

@@ -1,8 +1,10 @@
 -- What no check refuses can be built, at figures that the nodes' numbers allow for. Assumes nothing.
 use Rattle.std.proofs.Common.{◌≡◌, ℕ, ◌+◌, ◌<◌, ◌≤◌, Bool, not, ◌||◌, T, ltb, length, refl, arith, nltb→le}
+use Rattle.rules.specs.Bounds.{node_bound}
 use mathlib.Core.Option.{none}
 use Rattle.rules.specs.Problem.{Figures}
-use Rattle.rules.specs.Checks.{Room, Handed, short_room, refusal_of}
+use Rattle.rules.specs.Rooms.{Room, Handed}
+use Rattle.rules.specs.Checks.{short_room, refusal_of}
 use Rattle.theorems.proofs.Words.Tests.{T-nor}
 use Rattle.theorems.proofs.Checks.Accept.{Passed, passed, passed-accepted}
 use Rattle.building.specs.Build.{Buildable}
@@ -35,7 +37,7 @@ enough n E M r t =
       marks = nltb→le (length r.marks) (n + 1) e.1;
     }
 
-module _ (f : Figures) (room : f.items + 2 + f.entries + f.options < 1048576) (h : Handed) where
+module _ (f : Figures) (room : f.items + 2 + f.entries + f.options < node_bound) (h : Handed) where
   pub passed-buildable : Passed f h
       → Buildable f h.np h.ns (h.np + h.ns) h.items h.colours h.ends h.room.heads h.room.up h.room.down h.room.tints h.room.marks
   passed-buildable P =

@@ -1,5 +1,6 @@
 -- An option's turn: its entries one after another, and then its boundary. Assumes nothing.
 use Rattle.std.proofs.Common.{◌≡◌, ℕ, ◌+◌, ◌-◌, ◌<◌, true, List, length, set, ℤ, negsuc, arith}
+use Rattle.rules.specs.Bounds.{node_bound}
 use Rattle.links.specs.Head.{Growing}
 use Rattle.links.specs.Column.{at}
 use Rattle.links.specs.Plan.{Plan}
@@ -19,7 +20,7 @@ module _ {P : Plan} {p : ℕ} {items colours : List ℕ} {heads₀ : List ℤ} {
   col-is = rw item spelled.col
 
   -- what putting the entry there asks for
-  pub fill-small : (i + 1 < 1048576) × (x < 1048576) × (at up (i + 1) < 1048576)
+  pub fill-small : (i + 1 < node_bound) × (x < node_bound) × (at up (i + 1) < node_bound)
   fill-small = rw (← col-is) (entry-small P F.planned x heads up O.closed tints O.laid spelled.entry)
 
   pub fill-in : Growing heads (i + 1) × (i + 1 < length up) × (at up (i + 1) < length down)

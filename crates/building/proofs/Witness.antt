@@ -2,7 +2,8 @@
 use Rattle.std.proofs.Common.{◌≡◌, false, [], ◌∷◌, replicate, pos, refl, arith}
 use mathlib.Core.Option.{none}
 use Rattle.rules.specs.Problem.{figures, problem_of}
-use Rattle.rules.specs.Checks.{Handed, check16, short_room, short_results, check_entry, refusal_of}
+use Rattle.rules.specs.Rooms.{Handed}
+use Rattle.rules.specs.Checks.{check16, short_room, short_results, check_entry, refusal_of}
 use Rattle.rules.specs.Rounds.{start as starting}
 use Rattle.links.specs.Plan.{Plan}
 use Rattle.building.specs.Layout.{plan_for, plan_of}

@@ -1,6 +1,7 @@
 -- What the building of the lists asks for, and what it ensures. Assumes nothing.
 use Rattle.std.specs.Prelude.{◌≡◌, ℕ, ◌+◌, ◌<◌, ◌≤◌, Bool, true, cond, List, length, ℤ, pos, nat_lt}
 use Rattle.std.proofs.Math.Option.{none}
+use Rattle.rules.specs.Bounds.{node_bound}
 use Rattle.rules.specs.Lists.{any}
 use Rattle.rules.specs.Problem.{Problem, Figures, problem_of}
 use Rattle.rules.specs.Checks.{check16}
@@ -56,7 +57,7 @@ pub record Buildable (f : Figures) (np ns n : ℕ) (items colours ends : List �
   pub accepted : Accepted f (problem_of np ns items colours ends)
   pub lengths : length items ≡ length colours
   pub ends-rise : check16 (length items) ends ≡ none
-  pub small : n + 2 + length items + length ends < 1048576
+  pub small : n + 2 + length items + length ends < node_bound
   pub heads-room : n + 2 + length items + length ends ≤ length heads
   pub up_room : n + 2 + length items + length ends ≤ length up
   pub down-room : n + 2 + length items + length ends ≤ length down

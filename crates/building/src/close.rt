@@ -1,5 +1,6 @@
 // The columns' last links, when every option is laid out.
 ghost use Rattle.std.specs.Prelude.{◌≡◌, ℕ, ◌+◌, ◌<◌, length};
+ghost use Rattle.rules.specs.Bounds.{node_bound};
 ghost use Rattle.links.specs.Column.{at};
 ghost use Rattle.links.specs.Nodes.{SameNodes};
 ghost use Rattle.building.specs.Laid.{closing};
@@ -8,15 +9,15 @@ use links::nodes::Nodes;
 
 // The way down from the last node of each column, to its header.
 pub fn close_columns(nodes: &mut Nodes)
-    requires { (nodes.old.n < 1048576) × (nodes.old.n < length nodes.old.up.now) × ((i : ℕ) → i < nodes.old.n → at nodes.old.up.now (i + 1) < length nodes.old.down.now) }
+    requires { (nodes.old.n < node_bound) × (nodes.old.n < length nodes.old.up.now) × ((i : ℕ) → i < nodes.old.n → at nodes.old.up.now (i + 1) < length nodes.old.down.now) }
     ensures nodes { SameNodes nodes.old nodes.new }
     ensures heads { nodes.new.heads.now ≡ nodes.old.heads.now }
     ensures up { nodes.new.up.now ≡ nodes.old.up.now }
     ensures down { nodes.new.down.now ≡ closing nodes.old.n nodes.old.up.now nodes.old.down.now }
 {
     // half open: tried as `1..=nodes.n`, the end of the loop does not prove where there is no item
-    for i in 1..nodes.n + 1 {
-        let last = nodes.above(i);
-        nodes.set_below(last, i);
+    for c in 1..nodes.n + 1 {
+        let last = nodes.above(c);
+        nodes.set_below(last, c);
     }
 }

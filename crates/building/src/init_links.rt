@@ -22,15 +22,15 @@ pub fn init_links(nodes: &mut Nodes, tints: &mut [u32], marks: &mut [u32], given
         nodes.new tints.new marks.new }
 {
     clear_headers(nodes, marks);
-    let mut p = nodes.n + 1;
+    let mut edge = nodes.n + 1;
     let mut begin = 0;
     for (k, &end) in given.ends.iter().enumerate() {
         let end = end as usize;
-        p = put_option(
+        edge = put_option(
             nodes,
             tints,
             k as u32,
-            p,
+            edge,
             &given.items[begin..end],
             &given.colours[begin..end],
         );

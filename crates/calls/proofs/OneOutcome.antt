@@ -6,7 +6,7 @@ use mathlib.Core.List.Memᴰ.{not-nil}
 use mathlib.Core.List.Memᴰ.{tail as next}
 use mathlib.Core.List.{List, [], ◌∷◌, map, Memᴰ as In}
 use Rattle.rules.specs.declared.answer.Answer.{Answer}
-use Rattle.rules.specs.Checks.{Room, Results}
+use Rattle.rules.specs.Rooms.{Room, Results}
 use Rattle.rules.specs.Outcome.{Outcome, outcome_of}
 use Rattle.rules.specs.Samples.{samples, handed, expected}
 use Rattle.rules.proofs.AllSamples.{samples-hold}

@@ -4,7 +4,7 @@ use mathlib.Core.Bool.{false}
 use Rattle.std.specs.Prelude.{Result, Ok, Err}
 use Rattle.rules.specs.declared.refusal.Refusal.{Refusal}
 use Rattle.rules.specs.Problem.{Figures, figures, problem_of}
-use Rattle.rules.specs.Checks.{Handed}
+use Rattle.rules.specs.Rooms.{Handed}
 use Rattle.rules.specs.Rounds.{reduce}
 use Rattle.rules.specs.Refusals.{number_of}
 use Rattle.rules.specs.Paper.{said_refused}

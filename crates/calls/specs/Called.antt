@@ -4,7 +4,7 @@
 use Rattle.std.specs.Prelude.{◌≡◌}
 use mathlib.Core.List.{Memᴰ as In}
 use Rattle.rules.specs.declared.answer.Answer.{Answer}
-use Rattle.rules.specs.Checks.{Room, Results, Handed}
+use Rattle.rules.specs.Rooms.{Room, Results, Handed}
 use Rattle.rules.specs.Paper.{paper}
 use Rattle.rules.specs.Outcome.{Outcome, outcome_of}
 use Rattle.rules.specs.Samples.{Sample, samples, handed, expected}

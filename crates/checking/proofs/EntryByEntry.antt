@@ -20,7 +20,7 @@ use Rattle.rules.specs.Checks.{Refusal, refuse, check_entry, check_option}
 use Rattle.theorems.proofs.Words.Tests.{T-dec, neqb→ne}
 use Rattle.theorems.proofs.Words.Choices.{or_else-nothing, or_else-none}
 use Rattle.theorems.proofs.Checks.Accept.{refuse-none}
-use Rattle.checking.specs.Marks.{Marked, Below}
+use Rattle.checking.specs.Marks.{Seen, BelowMark}
 
 abbrev entry : ℕ → ℕ → Entry
 entry item colour = record { item = item; colour = colour }
@@ -72,7 +72,7 @@ item-below np n most i seen item colour e =
     ltb→lt item n (T_not-not (ltb item n) (refuse-none 19 i (not (ltb item n)) (or_else-none (refuse 19 i (not (ltb item n))) _ e).0))
 
 -- Marks: no item has a mark that is above all, and an item that is marked is one seen.
-pub none-marked : (mark : ℕ) (marks : List ℕ) → Below mark marks → Marked mark marks []
+pub none-marked : (mark : ℕ) (marks : List ℕ) → BelowMark mark marks → Seen mark marks []
 none-marked mark marks B i = sym (ne_eqb (get_or marks i 0) mark (λ e. let b = B i in absurd (omega arith)))
 
 module _ (mark item : ℕ) (marks : List ℕ) (h : item < length marks) where
@@ -80,7 +80,7 @@ module _ (mark item : ℕ) (marks : List ℕ) (h : item < length marks) where
   at_set i (inl t) = let e = eqb→eq i item t in inl (e, rw e (get_or-set_same marks item mark 0 h))
   at_set i (inr t) = let n = neqb→ne i item t in inr (ne_eqb i item n, get_or-set_other marks item i mark 0 n)
 
-  pub now-marked : (seen : List ℕ) → Marked mark marks seen → Marked mark (set marks item mark) (item ∷ seen)
+  pub now-marked : (seen : List ℕ) → Seen mark marks seen → Seen mark (set marks item mark) (item ∷ seen)
   now-marked seen M i = go (at_set i (T-dec (eqb i item)))
     where
       go : ((i ≡ item) × (get_or (set marks item mark) i 0 ≡ mark)) ⊎ ((eqb i item ≡ false) × (get_or (set marks item mark) i 0 ≡ get_or marks i 0))
@@ -88,7 +88,7 @@ module _ (mark item : ℕ) (marks : List ℕ) (h : item < length marks) where
       go (inl w) = rw (w.1, eq-eqb i item w.0, eq-eqb mark mark refl)
       go (inr w) = rw (w.1, w.0) (M i)
 
-  pub still-below : Below (mark + 1) marks → Below (mark + 1) (set marks item mark)
+  pub still-below : BelowMark (mark + 1) marks → BelowMark (mark + 1) (set marks item mark)
   still-below B i = go (at_set i (T-dec (eqb i item)))
     where
       go : ((i ≡ item) × (get_or (set marks item mark) i 0 ≡ mark)) ⊎ ((eqb i item ≡ false) × (get_or (set marks item mark) i 0 ≡ get_or marks i 0))
@@ -100,13 +100,13 @@ module _ (mark item : ℕ) (marks : List ℕ) (h : item < length marks) where
 pub record Through (np n most a b mark : ℕ) (items colours marks : List ℕ) (j : ℕ) : Type 0 where
   pub low : a ≤ j
   pub high : j ≤ b
-  pub below : Below (mark + 1) marks
+  pub below : BelowMark (mark + 1) marks
   pub seen : List ℕ
-  pub marked : Marked mark marks seen
+  pub marked : Seen mark marks seen
   pub same : check_option np n most a [] (slice a b (entries_of items colours)) ≡ check_option np n most j seen (slice j b (entries_of items colours))
 
 module _ (np n most a b mark : ℕ) (items colours : List ℕ) where
-  pub option-begin : (marks : List ℕ) → a ≤ b → Below mark marks → Through np n most a b mark items colours marks a
+  pub option-begin : (marks : List ℕ) → a ≤ b → BelowMark mark marks → Through np n most a b mark items colours marks a
   option-begin marks h B =
       record { low = omega arith; high = h; below = λ i. let l = B i in omega arith; seen = []; marked = none-marked mark marks B; same = refl }
 

@@ -6,19 +6,20 @@ use mathlib.Core.Bool.{Bool, false}
 use mathlib.Core.List.{List}
 use mathlib.Core.Option.{none}
 use Rattle.rules.specs.Problem.{Entry, Figures, entries_of, cut}
-use Rattle.rules.specs.Checks.{Handed, check_options, refusal_of}
+use Rattle.rules.specs.Rooms.{Handed}
+use Rattle.rules.specs.Checks.{check_options, refusal_of}
 use Rattle.rules.specs.SecondRun.{Roomy}
 use Rattle.theorems.proofs.Checks.Accept.{Passes, Passed, options→, options←, passed, not-refused}
 
 -- Each figure is at most the other's.
-pub record Within (f g : Figures) : Type 0 where
+pub record FiguresWithin (f g : Figures) : Type 0 where
   pub items : f.items ≤ g.items
   pub options : f.options ≤ g.options
   pub entries : f.entries ≤ g.entries
   pub colour : f.colour ≤ g.colour
 
 -- The same problem is handed in.
-pub record Alike (h h' : Handed) : Type 0 where
+pub record HandedAlike (h h' : Handed) : Type 0 where
   pub np : h.np ≡ h'.np
   pub ns : h.ns ≡ h'.ns
   pub items : h.items ≡ h'.items
@@ -34,7 +35,7 @@ more-colours np n c d l seen o P =
       once = P.once;
     }
 
-pub figures-grow : (f g : Figures) → Within f g → (ragged : Bool) (h h' : Handed) → Alike h h' → Roomy h' → refusal_of f ragged h ≡ none → refusal_of g false h' ≡ none
+pub figures-grow : (f g : Figures) → FiguresWithin f g → (ragged : Bool) (h h' : Handed) → HandedAlike h h' → Roomy h' → refusal_of f ragged h ≡ none → refusal_of g false h' ≡ none
 figures-grow f g W ragged h h' S R e = not-refused g h' (grown (passed f ragged h e))
   where
     grown : Passed f h → Passed g h'

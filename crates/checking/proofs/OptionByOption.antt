@@ -11,7 +11,7 @@ use lib.Seq.{slice, drop-cons, length-slice}
 use Rattle.rules.specs.Problem.{entries_of, cut}
 use Rattle.rules.specs.Checks.{Refusal, check_option, check_options}
 use Rattle.theorems.proofs.Checks.Cutting.{Ascend, rise, length-entries_of, check16→}
-use Rattle.checking.specs.Marks.{Below}
+use Rattle.checking.specs.Marks.{BelowMark}
 use Rattle.checking.specs.Checkable.{Checkable}
 
 -- the first of ends that rise
@@ -21,18 +21,18 @@ first-rises (rise h l r) = (h, l, r)
 -- The options below k have passed; `begin` is the end of the last of them.
 pub record Past (np n most : ℕ) (items colours ends marks : List ℕ) (k begin : ℕ) : Type 0 where
   pub bound : k ≤ length ends
-  pub below : Below (k + 1) marks
+  pub below : BelowMark (k + 1) marks
   pub rises : Ascend (length items) begin (drop k ends)
   pub same : check_options np n most 0 (cut 0 ends (entries_of items colours)) ≡ check_options np n most begin (cut begin (drop k ends) (entries_of items colours))
 
 -- marks that are all 0
-pub unmarked : (m : ℕ) → Below 1 (replicate m 0)
+pub unmarked : (m : ℕ) → BelowMark 1 (replicate m 0)
 unmarked zero i = omega arith
 unmarked (suc m) zero = omega arith
 unmarked (suc m) (suc i) = unmarked m i
 
 module _ (np n most : ℕ) (items colours ends : List ℕ) (C : Checkable n items colours ends) where
-  pub options-begin : (marks : List ℕ) → Below 1 marks → Past np n most items colours ends marks 0 0
+  pub options-begin : (marks : List ℕ) → BelowMark 1 marks → Past np n most items colours ends marks 0 0
   options-begin marks B = record { bound = omega arith; below = B; rises = (check16→ (length items) ends C.ends-rise).0; same = refl }
 
   module _ (marks : List ℕ) (k begin : ℕ) (R : Past np n most items colours ends marks k begin) where
@@ -60,7 +60,7 @@ module _ (np n most : ℕ) (items colours ends : List ℕ) (C : Checkable n item
           let l = length-slice begin (get_or ends k 0) (entries_of items colours) (omega arith) in
           omega arith
 
-      pub options-next : (marks' : List ℕ) → Below (k + 1 + 1) marks' → check_option np n most begin [] (slice begin (get_or ends k 0) (entries_of items colours)) ≡ none
+      pub options-next : (marks' : List ℕ) → BelowMark (k + 1 + 1) marks' → check_option np n most begin [] (slice begin (get_or ends k 0) (entries_of items colours)) ≡ none
           → Past np n most items colours ends marks' (k + 1) (get_or ends k 0)
       options-next marks' B e =
           record {

@@ -9,7 +9,8 @@ use lib.ListN.{length}
 use mir.Facts.{T_not-not}
 use Rattle.rules.specs.Lists.{or_else, first_of}
 use Rattle.rules.specs.Problem.{Figures, entries_of, cut}
-use Rattle.rules.specs.Checks.{Refusal, Handed, refuse, check16, short_room, short_results, check_options, size_checks, refusal_of}
+use Rattle.rules.specs.Rooms.{Handed}
+use Rattle.rules.specs.Checks.{Refusal, refuse, check16, short_room, short_results, check_options, size_checks, refusal_of}
 use Rattle.rules.specs.Sizing.{sizing}
 use Rattle.theorems.proofs.Words.Tests.{T-nor}
 use Rattle.theorems.proofs.Words.Choices.{or_else-assoc, or_else-nothing, or_else-none}

@@ -7,7 +7,8 @@ use Rattle.std.specs.Prelude.{Result, Ok, Err, IsErrAnd}
 use Rattle.std.proofs.lemmas.Result.{err_from_is_err_and}
 use Rattle.rules.specs.declared.refusal.Refusal.{Refusal}
 use Rattle.rules.specs.Problem.{Figures}
-use Rattle.rules.specs.Checks.{Refusal as PaperRefusal, Room, Results, Handed, refusal_of}
+use Rattle.rules.specs.Rooms.{Room, Results, Handed}
+use Rattle.rules.specs.Checks.{Refusal as PaperRefusal, refusal_of}
 use Rattle.rules.specs.Refusals.{as_paper, refusal_in}
 use Rattle.checking.specs.Lent.{Lent}
 use Rattle.checking.specs.declared.room.Lengths.{Lengths}

@@ -1,6 +1,6 @@
 -- Room and result lists of which only the lengths are known. Assumes nothing.
 use Rattle.std.specs.Prelude.{◌≡◌, length}
-use Rattle.rules.specs.Checks.{Room, Results}
+use Rattle.rules.specs.Rooms.{Room, Results}
 use Rattle.checking.specs.declared.room.Lengths.{Lengths}
 
 -- The ten lists have these lengths.

@@ -4,10 +4,11 @@
 // the options before need not be taken away.
 ghost use Rattle.std.specs.Prelude.{◌≡◌, List, [], ℕ, ◌+◌, ◌<◌, ◌≤◌, length, get_or};
 ghost use Rattle.std.proofs.Math.Seq.{slice};
+ghost use Rattle.rules.specs.Bounds.{word_bound};
 ghost use Rattle.rules.specs.Problem.{entries_of, cut};
 ghost use Rattle.rules.specs.Checks.{check_entry, check_option, check_options};
 ghost use Rattle.rules.specs.Refusals.{refusal_in};
-ghost use Rattle.checking.specs.Marks.{Marked, Below};
+ghost use Rattle.checking.specs.Marks.{Seen, BelowMark};
 ghost use Rattle.checking.specs.Checkable.{Checkable};
 
 use rules::refusal::{Check, Refusal, refuse_if};
@@ -30,7 +31,7 @@ fn check_entry(
     colour: u32,
 ) -> Result<(), Refusal>
     requires { limits.n ≤ length marks.now }
-    ensures { (seen : List ℕ) → Marked mark marks.now seen → refusal_in result ≡ check_entry limits.np limits.n limits.colour place seen (record { item = item; colour = colour }) }
+    ensures { (seen : List ℕ) → Seen mark marks.now seen → refusal_in result ≡ check_entry limits.np limits.n limits.colour place seen (record { item = item; colour = colour }) }
 {
     refuse_if(item >= limits.n, Check::NoSuchItem, place)?;
     // a speed choice: 20 and 21 refuse no entry without a colour
@@ -52,10 +53,10 @@ fn check_option(
     items: &[u32],
     colours: &[u32],
 ) -> Result<(), Refusal>
-    requires n_in_bounds { (limits.n ≤ length marks.old) × (a ≤ b) × (b ≤ length items.now) × (length items.now ≡ length colours.now) × (b < 4294967296) }
-    requires below { Below mark marks.old }
+    requires n_in_bounds { (limits.n ≤ length marks.old) × (a ≤ b) × (b ≤ length items.now) × (length items.now ≡ length colours.now) × (b < word_bound) }
+    requires below { BelowMark mark marks.old }
     ensures answer { refusal_in result ≡ check_option limits.np limits.n limits.colour a [] (slice a b (entries_of items.now colours.now)) }
-    ensures marks { Below (mark + 1) marks.new }
+    ensures marks { BelowMark (mark + 1) marks.new }
 {
     // by place, since a refusal names the place: a zip of both lists with it would be no plainer
     for j in a..b {

@@ -1,7 +1,8 @@
 // The whole table.
 ghost use Rattle.std.specs.Prelude.{◌≡◌, ◌≤◌};
 ghost use Rattle.rules.specs.Sizing.{figures_of};
-ghost use Rattle.rules.specs.Checks.{Room, Results, refusal_of};
+ghost use Rattle.rules.specs.Rooms.{Room, Results};
+ghost use Rattle.rules.specs.Checks.{refusal_of};
 ghost use Rattle.rules.specs.Lent.{handed_in};
 ghost use Rattle.rules.specs.Refusals.{refusal_in};
 ghost use Rattle.checking.specs.Lent.{Lent};

@@ -1,6 +1,8 @@
 // Checks 17 and 18, of the room that is lent.
 ghost use Rattle.std.specs.Prelude.{◌≡◌, ◌+◌, ◌<◌};
-ghost use Rattle.rules.specs.Checks.{Room as PaperRoom, Results as PaperResults, short_room, short_results};
+ghost use Rattle.rules.specs.Bounds.{word_bound};
+ghost use Rattle.rules.specs.Rooms.{Room as PaperRoom, Results as PaperResults};
+ghost use Rattle.rules.specs.Checks.{short_room, short_results};
 ghost use Rattle.rules.specs.Lent.{room_in, results_in};
 ghost use Rattle.checking.specs.Lent.{Lent};
 
@@ -43,7 +45,7 @@ impl Lengths {
 
 // 17: a working list is too short for n items and these counts of entries and options.
 pub fn short_room(n: usize, entries: usize, options: usize, lent: Lengths) -> bool
-    requires { n + 2 + entries + options < 4294967296 }
+    requires { n + 2 + entries + options < word_bound }
     ensures { (room : PaperRoom) (results : PaperResults) → Lent lent room results → result ≡ short_room n entries options room }
 {
     let size = n + 2 + entries + options;

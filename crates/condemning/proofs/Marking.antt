@@ -2,6 +2,7 @@
 use Prim.Native.Nat.{ℕ, ◌+◌, ◌<◌, ◌≤◌}
 use native.Mathlib.Omega.{arith}
 use mathlib.Core.Path.{◌≡◌, ◌∙◌, ap, sym, subst}
+use Rattle.rules.specs.Bounds.{node_bound}
 use mathlib.Core.Logic.{⊎_elim, ◌≢◌}
 use mathlib.Core.Bool.{Bool, true, false, false≢true, true≢false}
 use mathlib.Core.List.{List}
@@ -133,7 +134,7 @@ module _ {g : Ground} {on : ℕ → Bool} {r : ℕ} {heads : List ℤ} {marks₀
     pub mark-in : q < length heads
     mark-in = rw m.heads-are (omega (arith, pass-in g m.tidy on r m.entry q p.till, m.tidy.heads-in))
 
-    pub mark-far : q < 1048576
+    pub mark-far : q < node_bound
     mark-far = omega (arith, pass-in g m.tidy on r m.entry q p.till, m.tidy.planned.small)
 
     module _ (b : below_zero (head heads q) ≡ false) where
@@ -153,7 +154,7 @@ module _ {g : Ground} {on : ℕ → Bool} {r : ℕ} {heads : List ℤ} {marks₀
         pub mark-place : item_of (head heads q) < length marks
         mark-place = omega (arith, item-here, (m.tidy.planned.entry q (row-mate g.plan m.tidy.planned r q m.entry (omega (arith, m.entry.from, p.above)) inside-row)).below, p.known.room)
 
-        pub mark-low : item_of (head heads q) < 1048576
+        pub mark-low : item_of (head heads q) < node_bound
         mark-low = omega (arith, item-here, m.tidy.planned.low q, mark-far)
 
         pub mark-full : Passing g on r (set marks (item_of (head heads q)) r) (q + 1)

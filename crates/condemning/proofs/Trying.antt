@@ -2,6 +2,7 @@
 use Prim.Native.Nat.{ℕ, ◌+◌, ◌<◌}
 use native.Mathlib.Omega.{arith}
 use mathlib.Core.Path.{◌≡◌, ◌∙◌, sym, subst}
+use Rattle.rules.specs.Bounds.{node_bound}
 use mathlib.Core.Logic.{⊎_elim, ◌≢◌}
 use mathlib.Core.Bool.{true, false}
 use mathlib.Core.List.{List}
@@ -19,7 +20,7 @@ use Rattle.links.proofs.Plans.{entry-from, entry-till}
 use Rattle.links.proofs.Descending.{column→, on-entry}
 use Rattle.showing.specs.Showing.{condemned_at}
 use Rattle.showing.proofs.HiddenStates.{hiding, hiding-tidy}
-use Rattle.testing.specs.Forward.{Test}
+use Rattle.blocking.specs.Forward.{Test}
 use Rattle.links.specs.Lead.{Led, Leads}
 use Rattle.condemning.specs.Marks.{Known, Marking}
 use Rattle.condemning.specs.Search.{Chain, Tried, Trying}
@@ -101,7 +102,7 @@ module _ {g : Ground} {i r first np z : ℕ} {heads : List ℤ} {up down tints m
   try_holds = hidden-holds g t.ready i t.holds
 
   -- the chain begins at a node, or at 0
-  pub try-small : z < 1048576
+  pub try-small : z < node_bound
   try-small =
       ⊎_elim (λ e. let c = subst (Chain g.plan tints z) e t.tried.chain in omega (arith, c))
       (λ w. let c = subst (Chain g.plan tints z) w.3 t.tried.chain in omega (arith, c.0, w.1, inside, t.ready.tidy.planned.small)) (down-front (condemned_at np i g) r)

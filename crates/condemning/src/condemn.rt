@@ -12,7 +12,7 @@ use crate::mark::mark_items;
 use links::emptied::Emptied;
 use links::nodes::Nodes;
 use removing::delete::really_delete_option;
-use testing::blocked::blocked;
+use blocking::blocked::blocked;
 
 // Tests the option of node r of column c, if r is its first live entry and uncoloured. A blocked one goes to the front of the chain.
 fn test_at(
@@ -35,7 +35,7 @@ fn test_at(
         return stack;
     }
     let q = nodes.lead(r);
-    if nodes.item(q).is_some() {
+    if nodes.column(q).is_some() {
         return stack;
     }
     mark_items(nodes, marks, r);

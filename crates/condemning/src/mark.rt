@@ -16,7 +16,7 @@ pub fn mark_items(nodes: &Nodes, marks: &mut [u32], r: usize)
     // to the boundary, whose place is known only when it is met
     while nodes.option(q).is_none() {
         // a `match`: the `else` of an `if let` would not say that there is no item
-        match nodes.item(q) {
+        match nodes.column(q) {
             Some(i) => marks[i] = r as u32,
             // a shortened entry has no item to mark
             None => {}

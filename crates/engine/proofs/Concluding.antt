@@ -2,13 +2,15 @@
 use Prim.Native.Nat.{ℕ, ◌+◌, ◌<◌, ◌≤◌}
 use native.Mathlib.Omega.{arith}
 use mathlib.Core.Path.{◌≡◌, refl, ◌∙◌, ap, sym, subst}
+use Rattle.rules.specs.Bounds.{node_bound}
 use mathlib.Core.Bool.{Bool, false, not, ◌||◌}
 use mathlib.Core.List.{List}
 use mathlib.Core.Option.{none}
 use lib.Dec.{T, ltb, nltb→le}
 use lib.ListN.{length}
 use Rattle.rules.specs.Problem.{Problem, figures, problem_of}
-use Rattle.rules.specs.Checks.{Room, Results, Handed, refusal_of, short_results}
+use Rattle.rules.specs.Rooms.{Room, Results, Handed}
+use Rattle.rules.specs.Checks.{refusal_of, short_results}
 use Rattle.rules.specs.State.{State}
 use Rattle.rules.specs.Rounds.{Finding, reduced, infeasible, reduce}
 use Rattle.rules.specs.Result.{results_of}
@@ -26,7 +28,7 @@ use Rattle.links.specs.Plan.{Plan}
 use Rattle.showing.specs.Showing.{state_of}
 use Rattle.preproc.specs.Standing.{Holding}
 use Rattle.result.specs.Writing.{out}
-use Rattle.result.specs.Reading.{Laid}
+use Rattle.result.specs.Reading.{NodesRead}
 use Rattle.result.proofs.Enough.{enough}
 use Rattle.engine.specs.Call.{outcome}
 use Rattle.engine.specs.Report.{Reported}
@@ -70,13 +72,13 @@ spacious n E M r t =
     }
 
 -- no check refuses what is handed
-pub record Taken (h : Handed) : Type 0 where
+pub record TakenIn (h : Handed) : Type 0 where
   pub unrefused : refusal_of figures false h ≡ none
 
-pub takes : (h : Handed) → refusal_of figures false h ≡ none → Taken h
+pub takes : (h : Handed) → refusal_of figures false h ≡ none → TakenIn h
 takes h e = record { unrefused = e }
 
-module _ {h : Handed} (t : Taken h) where
+module _ {h : Handed} (t : TakenIn h) where
   e : refusal_of figures false h ≡ none
   e = t.unrefused
 
@@ -86,14 +88,14 @@ module _ {h : Handed} (t : Taken h) where
   P : Passed figures h
   P = passed figures false h e
 
-  pub call-small : h.np + h.ns < 1048576
+  pub call-small : h.np + h.ns < node_bound
   call-small = omega (arith, P.items)
 
   pub call-buildable : Buildable figures h.np h.ns (h.np + h.ns) h.items h.colours h.ends h.room.heads h.room.up h.room.down h.room.tints h.room.marks
   call-buildable = buildable figures (omega arith) h false e
 
   -- a column that the rounds stop at is that of a primary item
-  pub stop-small : {item cause round : ℕ} → reduce a h.cap ≡ infeasible item cause round → item < 1048576
+  pub stop-small : {item cause round : ℕ} → reduce a h.cap ≡ infeasible item cause round → item < node_bound
   stop-small {item} {cause} {round} q =
       let w : InfeasibleWithin h item cause round = subst (Within h) q (bounds figures false h e) in
       omega (arith, w.primary, P.items)
@@ -119,7 +121,7 @@ module _ {h : Handed} (t : Taken h) where
   -- the nodes are as the rounds left them
   module _ (nodes : Nodes) (np-is : nodes.np ≡ h.np) (n-is : nodes.n ≡ h.np + h.ns) {s : State} {rounds : ℕ} {settled : Bool} {tints marks : List ℕ}
       (q : reduce a h.cap ≡ reduced s rounds settled) (H : Holding (plan_of a) s nodes.heads.now nodes.up.now nodes.down.now tints marks) where
-    laid : Laid H.ground nodes tints
+    laid : NodesRead H.ground nodes tints
     laid = record {
       standing = record {
         ready = H.standing.ready;

@@ -1,4 +1,3 @@
-pub mod Searching
+pub mod Running
 pub mod Reporting
-pub mod Clearing
 pub mod Concluding

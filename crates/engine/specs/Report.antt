@@ -1,18 +1,19 @@
 -- What is asked where the result is written: the nodes as the rounds left them, and lists that are long enough. Assumes nothing.
 use Rattle.std.specs.Prelude.{ℕ, ◌≤◌, ◌<◌, List, length}
-use Rattle.rules.specs.Checks.{Results}
+use Rattle.rules.specs.Bounds.{word_bound}
+use Rattle.rules.specs.Rooms.{Results}
 use Rattle.rules.specs.Result.{kept_options, results_of}
 use Rattle.links.specs.Ground.{Ground}
 use Rattle.showing.specs.Showing.{state_of}
 use Rattle.result.specs.Writing.{out}
 use Rattle.links.specs.declared.nodes.Nodes.{Nodes}
-use Rattle.result.specs.Reading.{Laid, Holding}
+use Rattle.result.specs.Reading.{NodesRead, LongEnough}
 
 pub record Reported (g : Ground) (nodes : Nodes) (tints : List ℕ) (lists : Results) : Type 0 where
-  pub laid : Laid g nodes tints
+  pub laid : NodesRead g nodes tints
   pub few : nodes.np ≤ nodes.n
   pub kept-room : nodes.n ≤ length lists.kept
-  pub holding : Holding (results_of nodes.n (state_of g)) (out lists.ends lists.numbers lists.items lists.colours)
+  pub holding : LongEnough (results_of nodes.n (state_of g)) (out lists.ends lists.numbers lists.items lists.colours)
   -- the counts are numbers of 32 bits
-  pub options-small : length (kept_options nodes.n (state_of g)) < 4294967296
-  pub entries-small : length (results_of nodes.n (state_of g)).items < 4294967296
+  pub options-small : length (kept_options nodes.n (state_of g)) < word_bound
+  pub entries-small : length (results_of nodes.n (state_of g)).items < word_bound

@@ -4,5 +4,4 @@
 
 pub mod reduce;
 pub mod report;
-pub mod room;
-pub mod search;
+pub mod run;

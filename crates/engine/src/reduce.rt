@@ -10,9 +10,9 @@ ghost use Rattle.rules.specs.Paper.{paper};
 ghost use Rattle.engine.specs.Call.{outcome};
 
 use crate::report::report;
-use crate::room::clear_room;
-use crate::search::search;
+use crate::run::run;
 use links::nodes::Nodes;
+use room::clear_room::clear_room;
 use rules::answer::Answer;
 use rules::lent::{Given, Results, Room};
 use rules::number::Item;
@@ -38,7 +38,7 @@ pub fn reduce(given: &Given<u32>, room: &mut Room, results: &mut Results<u32>) -
         n,
         start: n + 2,
     };
-    let answer = match search(&mut nodes, &mut *tints, &mut *marks, given) {
+    let answer = match run(&mut nodes, &mut *tints, &mut *marks, given) {
         Ok(done) => report(&nodes, &*tints, done, results),
         Err(stop) => Answer::Infeasible {
             item: Item::from((stop.column - 1) as u32),

@@ -3,6 +3,7 @@
 use Prim.Native.Nat.{ℕ, ◌+◌, ◌<◌, ◌≤◌}
 use native.Mathlib.Omega.{arith}
 use mathlib.Core.Path.{◌≡◌, refl, ◌∙◌, ap, sym, subst}
+use Rattle.rules.specs.Bounds.{node_bound}
 use mathlib.Core.Logic.{⊎_elim, ◌≢◌}
 use mathlib.Core.Bool.{true≢false}
 use mathlib.Core.List.Memᴰ
@@ -107,7 +108,7 @@ module _ (g : Ground) (t : Tidy g) (x : ℕ) (xs : List ℕ) (r : Rising g (x �
       down-in = omega (arith, k.ups, below_in g.plan.N g.plan.col g.on g.up g.down t.ring x w.on)
 
       -- what the code asks
-      pub relink-asks : (x < 1048576) × (x < length up) × (x < length down) × (at up x < length down) × (at down x < length up)
+      pub relink-asks : (x < node_bound) × (x < length up) × (x < length down) × (at up x < length down) × (at down x < length up)
       relink-asks =
           let i = node_in g t x w in
           (omega (arith, t.planned.small), omega (arith, k.ups, t.ring.ups), omega (arith, k.downs, t.ring.downs), rw up_is up_in, rw down_is down-in)

@@ -3,6 +3,7 @@
 use Prim.Native.Nat.{ℕ, ◌+◌, ◌<◌, ◌≤◌}
 use native.Mathlib.Omega.{arith}
 use mathlib.Core.Path.{◌≡◌, ◌∙◌, sym}
+use Rattle.rules.specs.Bounds.{node_bound}
 use mathlib.Core.Logic.{◌≢◌}
 use mathlib.Core.Bool.{true, false, and-false}
 use mathlib.Core.List.{List, []}
@@ -31,7 +32,7 @@ module _ {g : Ground} {tints : List ℕ} {c from : ℕ} (w : Column g tints c fr
     pub further : rr + 1 ≤ g.plan.N
     further = omega (arith, stand-inside)
 
-    pub stand-small : rr < 1048576
+    pub stand-small : rr < node_bound
     stand-small = omega (arith, stand-inside, w.ready.tidy.planned.small)
 
     pub tint-in : rr < length tints

@@ -14,7 +14,7 @@ use Rattle.links.specs.Taking.{gather_to, hidden, hides}
 use Rattle.links.proofs.Gathering.{gather_none}
 use Rattle.links.proofs.Descending.{reach, left, Stand, reach-past, reach-at, stand-next, step-far, step_less}
 use Rattle.hiding.specs.Hiding.{Column}
-use Rattle.hiding.specs.Away.{Rising, Away, Behind}
+use Rattle.hiding.specs.Away.{Rising, Away, Returning}
 use Rattle.hiding.proofs.Rises.{rising-rest}
 use Rattle.hiding.proofs.Aways.{all_back, away-room, away-taken}
 use Rattle.hiding.proofs.Order.{gather_later, gather-split, later_same, later-one, later-none}
@@ -105,7 +105,7 @@ module _ {g : Ground} {tints : List ℕ} {c from : ℕ} (w : Column g tints c fr
         one_more = later-one (hidden g c) g rr (stand-inside w s) (hidden-here w s l z)
 
         -- what putting the option back asks
-        pub behind : Behind g rr (out (rr + 1))
+        pub behind : Returning g rr (out (rr + 1))
         behind = record { tidy = t; entry = stand-entry w s l; rising = subst (λ (xs : List ℕ). Rising g xs) one_more (out-rising rr (omega (arith, further w s))) }
 
         pub behind-away : Away g (others g rr ++ out (rr + 1)) heads up down

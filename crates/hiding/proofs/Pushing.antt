@@ -2,6 +2,7 @@
 use Prim.Native.Nat.{ℕ, ◌-◌, ◌<◌}
 use native.Mathlib.Omega.{arith}
 use mathlib.Core.Path.{◌≡◌, refl, ◌∙◌, ap, sym, subst}
+use Rattle.rules.specs.Bounds.{node_bound}
 use mathlib.Core.Bool.{cond, ◌&&◌}
 use mathlib.Core.List.{List, [], ◌∷◌, ◌++◌, Memᴰ as In}
 use lib.Dec.{eqb, leb}
@@ -35,10 +36,10 @@ module _ (g : Ground) (t : Tidy g) (xs : List ℕ) (f : Fresh g xs) {x : ℕ} (w
           cut-down-in (taken g xs) h-tidy x h-within,
         )
 
-    pub fewer-asks : (g.plan.col x < length heads) × (item_of (head heads (g.plan.col x)) < 1048576) × (0 < item_of (head heads (g.plan.col x)))
+    pub fewer-asks : (g.plan.col x < length heads) × (item_of (head heads (g.plan.col x)) < node_bound) × (0 < item_of (head heads (g.plan.col x)))
     fewer-asks =
         rw k.heads-are
-        (subst (λ (P : Plan). (P.col x < length (taken g xs).heads) × (item_of (head (taken g xs).heads (P.col x)) < 1048576) × (0 < item_of (head (taken g xs).heads (P.col x))))
+        (subst (λ (P : Plan). (P.col x < length (taken g xs).heads) × (item_of (head (taken g xs).heads (P.col x)) < node_bound) × (0 < item_of (head (taken g xs).heads (P.col x))))
         (taken-plan g xs)
         (col-in (taken g xs) h-tidy x h-within, length-small (taken g xs) h-tidy x h-within, length_some (taken g xs) h-tidy x h-within))
 

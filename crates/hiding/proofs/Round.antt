@@ -9,13 +9,14 @@ use lib.Dec.{eqb, leb}
 use lib.ListN.{length, set}
 use lib.IntN.{ℤ, pos}
 use Rattle.std.proofs.Common.{Option, Some, None}
+use Rattle.rules.specs.Bounds.{node_bound}
 use Rattle.links.specs.Head.{item_of, head}
 use Rattle.links.specs.Column.{at, cut_up, cut_down}
 use Rattle.links.specs.Ground.{Ground, Within, taken, Fresh, Holds}
 use Rattle.links.specs.Row.{walked, others}
 use Rattle.links.specs.Way.{way}
 use Rattle.links.specs.Taking.{last_out}
-use Rattle.links.specs.Nodes.{item_in, column}
+use Rattle.links.specs.Nodes.{column_in, column}
 use Rattle.links.proofs.Endings.{column_of, item_none, item_some}
 use Rattle.links.proofs.Grounds.{taken-head, taken-up-off, taken-lengths, fresh-more}
 use Rattle.links.proofs.Rows.{At, place_in, walk_begins, walked_none, full-inside, full-entry, full-head, full_at, full-walked, over-at, over-walked, over-way, In-walked, others-In}
@@ -71,7 +72,7 @@ module _ {g : Ground} {rr np : ℕ} {last : Option ℕ} (a : Around g rr) where
 
     module _ (d : nn ≢ rr) where
       -- At the boundary or a shortened entry: on by the link up.
-      module _ (z : None ≡ item_in (head heads nn)) where
+      module _ (z : None ≡ column_in (head heads nn)) where
         z₀ : item_of (head g.heads nn) ≡ 0
         z₀ = sym (ap item_of same_head) ∙ item_none (head heads nn) z
 
@@ -85,7 +86,7 @@ module _ {g : Ground} {rr np : ℕ} {last : Option ℕ} (a : Around g rr) where
         over-less n l = rw lead (over-way g a.tidy rr a.entry nn m.place d z₀ n l)
 
       -- At an entry: it is taken out.
-      module _ {cc : ℕ} (e : Some cc ≡ item_in (head heads nn)) where
+      module _ {cc : ℕ} (e : Some cc ≡ column_in (head heads nn)) where
         n₀ : item_of (head g.heads nn) ≢ 0
         n₀ z = omega (arith, (item_some (head heads nn) cc e).1, ap item_of same_head, z)
 
@@ -110,7 +111,7 @@ module _ {g : Ground} {rr np : ℕ} {last : Option ℕ} (a : Around g rr) where
         pub unlink-needs : (nn < length up) × (nn < length down) × (at up nn < length down) × (at down nn < length up)
         unlink-needs = unlink-asks g a.tidy (walked g rr nn) m.fresh w new k
 
-        pub fewer-needs : (cc < length heads) × (item_of (head heads cc) < 1048576) × (0 < item_of (head heads cc))
+        pub fewer-needs : (cc < length heads) × (item_of (head heads cc) < node_bound) × (0 < item_of (head heads cc))
         fewer-needs = rw col-is (fewer-asks g a.tidy (walked g rr nn) m.fresh w new k)
 
         emptied : (z : ℕ) → last_out g np (walked g rr nn ++ (nn ∷ [])) z ≡ cond (eqb (item_of (head heads cc) - 1) 0 && leb cc np) cc (last_out g np (walked g rr nn) z)

@@ -7,16 +7,17 @@ use mathlib.Core.List.{List, ◌∷◌, ◌++◌}
 use lib.ListN.{length, set}
 use lib.IntN.{ℤ, pos}
 use Rattle.std.proofs.Common.{Some, None}
+use Rattle.rules.specs.Bounds.{node_bound}
 use Rattle.links.specs.Head.{item_of, head, Growing}
 use Rattle.links.specs.Column.{at, tie_up, tie_down}
 use Rattle.links.specs.Ground.{Ground}
 use Rattle.links.specs.Row.{others}
 use Rattle.links.specs.Way.{way}
-use Rattle.links.specs.Nodes.{item_in}
+use Rattle.links.specs.Nodes.{column_in}
 use Rattle.links.proofs.Endings.{item_none, item_some}
 use Rattle.links.proofs.Grounds.{taken-head}
 use Rattle.links.proofs.Rows.{At, place_in, walk_begins, full-head, full_at, over-at, over-way}
-use Rattle.hiding.specs.Away.{Rising, Away, Behind}
+use Rattle.hiding.specs.Away.{Rising, Away, Returning}
 use Rattle.hiding.proofs.Places.{place-no-header, empty-off}
 use Rattle.hiding.proofs.Rises.{rising-fresh}
 use Rattle.hiding.proofs.Aways.{away-room, relink-asks, more-in, away-back}
@@ -28,7 +29,7 @@ pub record RoundBack (g : Ground) (rr : ℕ) (rest : List ℕ) (heads : List ℤ
   pub rising : Rising g (ahead g rr nn ++ rest)
   pub away : Away g (ahead g rr nn ++ rest) heads up down
 
-module _ {g : Ground} {rr : ℕ} {rest : List ℕ} (a : Behind g rr rest) where
+module _ {g : Ground} {rr : ℕ} {rest : List ℕ} (a : Returning g rr rest) where
   -- another place with the same nodes away
   moved : {heads : List ℤ} {up down : List ℕ} (xs : List ℕ) (nn : ℕ) → At g rr nn → ahead g rr nn ≡ xs → Rising g (xs ++ rest) → Away g (xs ++ rest) heads up down → RoundBack g rr rest heads up down nn
   moved {heads} {up} {down} xs nn p e r k =
@@ -55,7 +56,7 @@ module _ {g : Ground} {rr : ℕ} {rest : List ℕ} (a : Behind g rr rest) where
 
     module _ (d : nn ≢ rr) where
       -- At the boundary or a shortened entry: on by the link up.
-      module _ (z : None ≡ item_in (head heads nn)) where
+      module _ (z : None ≡ column_in (head heads nn)) where
         z₀ : item_of (head g.heads nn) ≡ 0
         z₀ = sym (ap item_of same_head) ∙ item_none (head heads nn) z
 
@@ -69,7 +70,7 @@ module _ {g : Ground} {rr : ℕ} {rest : List ℕ} (a : Behind g rr rest) where
         over-less n l = rw lead (over-way g a.tidy rr a.entry nn m.place d z₀ n l)
 
       -- At an entry: it comes back.
-      module _ {cc : ℕ} (e : Some cc ≡ item_in (head heads nn)) where
+      module _ {cc : ℕ} (e : Some cc ≡ column_in (head heads nn)) where
         n₀ : item_of (head g.heads nn) ≢ 0
         n₀ z = omega (arith, (item_some (head heads nn) cc e).1, ap item_of same_head, z)
 
@@ -88,7 +89,7 @@ module _ {g : Ground} {rr : ℕ} {rest : List ℕ} (a : Behind g rr rest) where
         k : Away g (nn ∷ left) heads up down
         k = subst (λ (l : List ℕ). Away g l heads up down) first m.away
 
-        pub relink-needs : (nn < 1048576) × (nn < length up) × (nn < length down) × (at up nn < length down) × (at down nn < length up)
+        pub relink-needs : (nn < node_bound) × (nn < length up) × (nn < length down) × (at up nn < length down) × (at down nn < length up)
         relink-needs = relink-asks g a.tidy nn left r k
 
         pub more-needs : Growing heads cc

@@ -25,7 +25,7 @@ pub record Away (g : Ground) (out : List ℕ) (heads : List ℤ) (up down : List
   pub down-own : (y : ℕ) → In y out → at down y ≡ at g.down y
 
 -- The other entries of rr's option are away, and come back before the rest.
-pub record Behind (g : Ground) (rr : ℕ) (rest : List ℕ) : Type 0 where
+pub record Returning (g : Ground) (rr : ℕ) (rest : List ℕ) : Type 0 where
   pub tidy : Tidy g
   pub entry : EntryOf g.plan rr
   pub rising : Rising g (others g rr ++ rest)

@@ -16,19 +16,19 @@ pub fn hide_option(nodes: &mut Nodes, rr: usize, last: Option<usize>) -> Option<
         → (w : ℕ) × (result ≡ column w) × in_nodes (Taken g (others g rr) nodes.old.np z) nodes.new w }
 {
     let mut stack = last;
-    let mut nn = rr + 1;
+    let mut qq = rr + 1;
     // a walk along links, which it changes itself: each node says which is next, and nothing else can hold the nodes meanwhile
-    while nn != rr {
-        match nodes.item(nn) {
+    while qq != rr {
+        match nodes.column(qq) {
             // over the boundary to the option's first entry, or past a shortened entry
-            None => nn = nodes.above(nn),
-            Some(cc) => {
-                nodes.unlink(nn);
-                let t = nodes.fewer(cc);
-                if t == 0 && cc <= nodes.np {
-                    stack = Some(cc);
+            None => qq = nodes.above(qq),
+            Some(j) => {
+                nodes.unlink(qq);
+                let t = nodes.fewer(j);
+                if t == 0 && j <= nodes.np {
+                    stack = Some(j);
                 }
-                nn += 1;
+                qq += 1;
             }
         }
     }

@@ -6,26 +6,26 @@ ghost use Rattle.links.specs.Row.{others};
 ghost use Rattle.links.specs.Taking.{hides};
 ghost use Rattle.links.specs.Nodes.{in_nodes, SameNodes};
 ghost use Rattle.hiding.specs.Hiding.{Column};
-ghost use Rattle.hiding.specs.Away.{Away, Behind};
+ghost use Rattle.hiding.specs.Away.{Away, Returning};
 
 use links::nodes::Nodes;
 
 // Puts every entry of rr's option but rr itself back into its column, in the same order.
 pub fn unhide_option(nodes: &mut Nodes, rr: usize)
-    requires { (g : Ground) × (rest : List ℕ) × Behind g rr rest × in_nodes (Away g (others g rr ++ rest)) nodes.old }
+    requires { (g : Ground) × (rest : List ℕ) × Returning g rr rest × in_nodes (Away g (others g rr ++ rest)) nodes.old }
     ensures nodes { SameNodes nodes.old nodes.new }
-    ensures back { (g : Ground) (rest : List ℕ) → Behind g rr rest → in_nodes (Away g (others g rr ++ rest)) nodes.old
+    ensures back { (g : Ground) (rest : List ℕ) → Returning g rr rest → in_nodes (Away g (others g rr ++ rest)) nodes.old
         → in_nodes (Away g rest) nodes.new }
 {
-    let mut nn = rr + 1;
+    let mut qq = rr + 1;
     // a walk along links, as in `hide_option`
-    while nn != rr {
-        match nodes.item(nn) {
-            None => nn = nodes.above(nn),
-            Some(cc) => {
-                nodes.relink(nn);
-                nodes.more(cc);
-                nn += 1;
+    while qq != rr {
+        match nodes.column(qq) {
+            None => qq = nodes.above(qq),
+            Some(j) => {
+                nodes.relink(qq);
+                nodes.more(j);
+                qq += 1;
             }
         }
     }

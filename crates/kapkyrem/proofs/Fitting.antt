@@ -6,7 +6,8 @@ use mathlib.Core.Bool.{Bool, true, false, cond}
 use mathlib.Core.Option.{Option, none, some}
 use lib.ListN.{length}
 use Rattle.rules.specs.Problem.{Figures, problem_of}
-use Rattle.rules.specs.Checks.{Refusal, Handed, refusal_of}
+use Rattle.rules.specs.Rooms.{Handed}
+use Rattle.rules.specs.Checks.{Refusal, refusal_of}
 use Rattle.rules.specs.Rounds.{Finding, reduced, infeasible, reduce}
 use Rattle.rules.specs.Result.{kept_items, kept_options, primaries_of, secondaries_of, results_of}
 use Rattle.rules.specs.Paper.{paper}

@@ -2,7 +2,7 @@
 use Prim.Native.Nat.{ℕ}
 use mathlib.Core.Path.{◌≡◌, sym, ap, ◌∙◌}
 use mathlib.Core.List.{List}
-use Rattle.rules.specs.Checks.{Room, Results}
+use Rattle.rules.specs.Rooms.{Room, Results}
 use Rattle.kapkyrem.specs.Calls.{Called, called, CalledDesk, called_desk, CalledCompact, called_compact}
 
 pub one-lists : (c : Called) (r r' : ℕ) (room room' : Room) (results results' : Results) → called r room results ≡ c → called r' room' results' ≡ c

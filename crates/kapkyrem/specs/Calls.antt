@@ -1,10 +1,10 @@
 -- What a call from C comes to: the number that it hands back, and every list that was lent, as it is afterwards. Assumes nothing.
 use Rattle.std.specs.Prelude.{ℕ, List}
-use Rattle.rules.specs.Checks.{Room, Results}
+use Rattle.rules.specs.Rooms.{Room, Results}
 use Rattle.rules.specs.Outcome.{Outcome}
 use Rattle.rules.specs.Renumber.{Renumbered}
 use Rattle.renumbering.specs.Outcome.{packed}
-use Rattle.desk.specs.Desk.{Served}
+use Rattle.desk_call.specs.Desk.{Served}
 use Rattle.kapkyrem.specs.Packed.{packed_desk, packed_lists}
 
 pub record Called : Type 0 where

@@ -1,11 +1,11 @@
 // The desk's call, over lists of bytes, four to a number, the lowest first.
 ghost use Rattle.std.specs.Prelude.{◌≡◌};
-ghost use Rattle.engine.specs.Call.{result_lists};
-ghost use Rattle.desk.specs.Desk.{desk_outcome};
+ghost use Rattle.rules.specs.Rooms.{result_lists};
+ghost use Rattle.desk_call.specs.Desk.{desk_outcome};
 ghost use Rattle.kapkyrem.specs.Calls.{called_desk, called_bytes};
 
 use crate::packed::pack_desk;
-use desk::reduce::reduce;
+use desk_call::reduce::reduce;
 use rules::lent::{Given, Results};
 
 // For C each list is a pointer and a count of bytes. include/kapkyrem.h describes every parameter.

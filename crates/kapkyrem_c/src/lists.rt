@@ -1,7 +1,8 @@
 // The call over lists of numbers, at the full figures, for callers that lend the working room.
 ghost use Rattle.std.specs.Prelude.{◌≡◌};
 ghost use Rattle.rules.specs.Outcome.{outcome_of};
-ghost use Rattle.engine.specs.Call.{result_lists, room_lists, handed};
+ghost use Rattle.rules.specs.Rooms.{result_lists, room_lists};
+ghost use Rattle.engine.specs.Call.{handed};
 ghost use Rattle.kapkyrem.specs.Calls.{called, called_lists};
 
 // For C each list is a pointer and a count of numbers. include/kapkyrem.h describes every parameter.

@@ -3,7 +3,7 @@ use Rattle.std.proofs.Common.{◌≡◌, ℕ, zero, suc, refl, sym, ◌∙◌, a
 use mathlib.Core.Path.{subst}
 use mathlib.Core.Bool.{true≢false}
 use Rattle.links.specs.Head.{item_of, option_of, below_zero}
-use Rattle.links.specs.Nodes.{column, item_in, option_in}
+use Rattle.links.specs.Nodes.{column, column_in, option_in}
 use Rattle.links.specs.Ending.{ending}
 use Rattle.links.specs.declared.emptied.Emptied.{Emptied}
 
@@ -19,11 +19,11 @@ pub column_of : (z : ℕ) → z ≢ 0 → Some z ≡ column z
 column_of zero n = absurd (n refl)
 column_of (suc i) n = refl
 
-pub item_none : (h : ℤ) → None ≡ item_in h → item_of h ≡ 0
+pub item_none : (h : ℤ) → None ≡ column_in h → item_of h ≡ 0
 item_none (pos i) e = column_none i e
 item_none (negsuc k) e = refl
 
-pub item_some : (h : ℤ) (i : ℕ) → Some i ≡ item_in h → (item_of h ≡ i) × (0 < item_of h)
+pub item_some : (h : ℤ) (i : ℕ) → Some i ≡ column_in h → (item_of h ≡ i) × (0 < item_of h)
 item_some (pos j) i e = column_some j i e
 item_some (negsuc k) i e = search rules
 
@@ -52,12 +52,12 @@ pub option_is : {o : Option ℕ} (h : ℤ) → o ≡ option_in h → is_some o �
 option_is (pos i) e = ap is_some e
 option_is (negsuc k) e = ap is_some e
 
-pub no-item : (h : ℤ) → is_some (item_in h) ≡ false → item_of h ≡ 0
+pub no-item : (h : ℤ) → is_some (column_in h) ≡ false → item_of h ≡ 0
 no-item (pos zero) e = refl
 no-item (pos (suc i)) e = absurd (true≢false e)
 no-item (negsuc k) e = refl
 
-pub some-item : (h : ℤ) → is_some (item_in h) ≡ true → item_of h ≢ 0
+pub some-item : (h : ℤ) → is_some (column_in h) ≡ true → item_of h ≢ 0
 some-item (pos zero) e = absurd (true≢false (sym e))
 some-item (pos (suc i)) e = omega arith
 some-item (negsuc k) e = absurd (true≢false (sym e))

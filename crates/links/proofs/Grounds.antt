@@ -3,6 +3,7 @@
 use Prim.Native.Nat.{ℕ, ◌+◌, ◌-◌, ◌<◌, ◌≤◌}
 use native.Mathlib.Omega.{arith}
 use mathlib.Core.Path.{◌≡◌, refl, ◌∙◌, ap, sym, subst}
+use Rattle.rules.specs.Bounds.{node_bound}
 use mathlib.Core.Logic.{inl, inr, ⊎_elim, ◌≢◌}
 use mathlib.Core.Bool.{Bool, true, false, false≢true}
 use mathlib.Core.List.Memᴰ
@@ -54,7 +55,7 @@ module _ (g : Ground) (t : Tidy g) where
     pub length_some : 0 < item_of (head g.heads (g.plan.col x))
     length_some = rw length-is (tally-some g.plan g.on x (entry-from g.plan W x w.entry) (entry-till g.plan W x w.entry) w.on)
 
-    pub length-small : item_of (head g.heads (g.plan.col x)) < 1048576
+    pub length-small : item_of (head g.heads (g.plan.col x)) < node_bound
     length-small = rw length-is (omega (arith, tally-small g.plan g.on (g.plan.col x), W.small))
 
     -- what unlinking asks of the lists

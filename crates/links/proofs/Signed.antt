@@ -3,6 +3,7 @@
 use Prim.Native.Nat.{ℕ, zero, suc, ◌+◌, ◌-◌, ◌^◌, ◌<◌}
 use native.Mathlib.Omega.{arith}
 use mathlib.Core.Path.{◌≡◌, refl, ◌∙◌, ap}
+use Rattle.rules.specs.Bounds.{node_bound}
 use mathlib.Core.Bool.{true, false, false≢true, true≢false}
 use mathlib.Core.List.{List}
 use borrow.Author.Tests.{ne_eqb, le-ltb, ltb-true, ltb-false}
@@ -85,17 +86,17 @@ below-is (pos i) h = rw (kept_same (pos i) h) (le-ltb i 0 (omega arith))
 below-is (negsuc k) h = rw (kept_same (negsuc k) h)
 
 -- one less than a head above 0, and one more than a head that isn't below
-pub one_less : (z : ℤ) → item_of z < 1048576 → 0 < item_of z → kept z -ℤ pos 1 ≡ pos (item_of z - 1)
+pub one_less : (z : ℤ) → item_of z < node_bound → 0 < item_of z → kept z -ℤ pos 1 ≡ pos (item_of z - 1)
 one_less (pos i) small above = rw (kept_same (pos i) (omega (arith, small)), le-ltb i 1 (omega (arith, above)))
 one_less (negsuc k) small above = absurd (omega (arith, above))
 
-pub one_more : (z : ℤ) → item_of z + 1 < 1048576 → below_zero z ≡ false → kept z +ℤ pos 1 ≡ pos (item_of z + 1)
+pub one_more : (z : ℤ) → item_of z + 1 < node_bound → below_zero z ≡ false → kept z +ℤ pos 1 ≡ pos (item_of z + 1)
 one_more (pos i) small e = rw (kept_same (pos i) (omega (arith, small)))
 one_more (negsuc k) small e = absurd (true≢false e)
 
 -- a number that stands for a head is small, and is kept
-pub stored-fits : {z : ℤ} (i : ℕ) → i < 1048576 → z ≡ pos i → SFits w32 z
+pub stored-fits : {z : ℤ} (i : ℕ) → i < node_bound → z ≡ pos i → SFits w32 z
 stored-fits i small e = rw e (record { sfits = omega (arith, small) })
 
-pub stored_is : {z : ℤ} (i : ℕ) → i < 1048576 → z ≡ pos i → kept z ≡ pos i
+pub stored_is : {z : ℤ} (i : ℕ) → i < node_bound → z ≡ pos i → kept z ≡ pos i
 stored_is i small e = ap kept e ∙ kept_same (pos i) (omega (arith, small))

@@ -1,5 +1,6 @@
 -- What a head says: the item of an entry, the length of a column, or the option before a boundary. Assumes nothing.
 use Rattle.std.specs.Prelude.{ℕ, ◌+◌, ◌<◌, ◌≡◌, Bool, true, false, List, eqb, length, get_or, ℤ, pos, negsuc}
+use Rattle.rules.specs.Bounds.{node_bound}
 
 -- above 0 the item + 1, else 0
 abbrev pub item_of : ℤ → ℕ
@@ -26,4 +27,4 @@ head heads x = get_or heads x (pos 0)
 
 -- the head at i counts a column that may grow by one: it is there, small, and not below 0
 abbrev pub Growing : List ℤ → ℕ → Type 0
-Growing heads i = (i < length heads) × (item_of (head heads i) + 1 < 1048576) × (below_zero (head heads i) ≡ false)
+Growing heads i = (i < length heads) × (item_of (head heads i) + 1 < node_bound) × (below_zero (head heads i) ≡ false)

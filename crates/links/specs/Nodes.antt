@@ -29,9 +29,9 @@ column zero = None
 column (suc i) = Some (suc i)
 
 -- the item of a head: above 0 the item + 1, else there is none
-abbrev pub item_in : ℤ → Option ℕ
-item_in (pos i) = column i
-item_in (negsuc k) = None
+abbrev pub column_in : ℤ → Option ℕ
+column_in (pos i) = column i
+column_in (negsuc k) = None
 
 -- the option of a head: at a boundary behind an option its number, else there is none
 abbrev pub option_in : ℤ → Option ℕ

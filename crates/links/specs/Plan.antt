@@ -1,6 +1,7 @@
 -- The plan of the nodes, which no step changes: where each option's entries lie, and of each node its option, its column and its colour.
 -- Assumes nothing.
 use Rattle.std.specs.Prelude.{ℕ, ◌+◌, ◌<◌, ◌≤◌, ◌≡◌}
+use Rattle.rules.specs.Bounds.{node_bound}
 
 pub record Plan : Type 0 where
   -- how many items, options and nodes there are
@@ -38,8 +39,8 @@ pub record Header (P : Plan) (i : ℕ) : Type 0 where
   pub below : i ≤ P.n
 
 pub record Planned (P : Plan) : Type 0 where
-  pub small : P.N < 1048576
-  pub options-small : P.M < 1048576
+  pub small : P.N < node_bound
+  pub options-small : P.M < node_bound
   pub room : start P ≤ P.N
   -- a column's number is at most its nodes'
   pub low : (x : ℕ) → P.col x ≤ x

@@ -1,6 +1,7 @@
 // Columns: an entry is taken out, and put back, with the length of its column. A column's length is counted on its head itself, which isn't
 // below 0, so that no test stands in the loops that count.
 ghost use Rattle.std.specs.Prelude.{◌≡◌, ℕ, ◌+◌, ◌-◌, ◌<◌, length, set, ℤ, pos};
+ghost use Rattle.rules.specs.Bounds.{node_bound};
 ghost use Rattle.links.specs.Head.{item_of, head, Growing};
 ghost use Rattle.links.specs.Column.{at, cut_up, cut_down, tie_up, tie_down};
 ghost use Rattle.links.specs.Nodes.{SameNodes};
@@ -24,7 +25,7 @@ impl<'a> Nodes<'a> {
 
     // Puts node x back between the neighbours that it had.
     pub fn relink(&mut self, x: usize)
-        requires { (x < 1048576) × (x < length self.old.up.now) × (x < length self.old.down.now) × (at self.old.up.now x < length self.old.down.now) × (at self.old.down.now x < length self.old.up.now) }
+        requires { (x < node_bound) × (x < length self.old.up.now) × (x < length self.old.down.now) × (at self.old.up.now x < length self.old.down.now) × (at self.old.down.now x < length self.old.up.now) }
         ensures nodes { SameNodes self.old self.new }
         ensures heads { self.new.heads.now ≡ self.old.heads.now }
         ensures up { self.new.up.now ≡ tie_up self.old.up.now self.old.down.now x }
@@ -38,7 +39,7 @@ impl<'a> Nodes<'a> {
 
     // The column of item i is one shorter; its new length.
     pub fn fewer(&mut self, i: usize) -> usize
-        requires { (i < length self.old.heads.now) × (item_of (head self.old.heads.now i) < 1048576) × (0 < item_of (head self.old.heads.now i)) }
+        requires { (i < length self.old.heads.now) × (item_of (head self.old.heads.now i) < node_bound) × (0 < item_of (head self.old.heads.now i)) }
         ensures nodes { SameNodes self.old self.new }
         ensures heads { self.new.heads.now ≡ set self.old.heads.now i (pos (item_of (head self.old.heads.now i) - 1)) }
         ensures up { self.new.up.now ≡ self.old.up.now }

@@ -3,6 +3,7 @@
 // `unlink` and `fewer` they hold no tidy ground, and a call tells how the ground changes. Each function that is lent them to write in says that
 // they stay the same lists (`SameNodes`), since its caller would else know nothing of its own.
 ghost use Rattle.std.specs.Prelude.{◌≡◌, ◌+◌, false, ℕ, ◌<◌, eqb, length, set, ℤ, pos, negsuc};
+ghost use Rattle.rules.specs.Bounds.{node_bound, word_bound};
 ghost use Rattle.links.specs.Head.{item_of, zero_head, below_zero, head};
 ghost use Rattle.links.specs.Column.{at};
 
@@ -21,19 +22,19 @@ pub struct Nodes<'a> {
 
 // What a node says.
 impl<'a> Nodes<'a> {
-    ghost use Rattle.links.specs.Nodes.{item_in, option_in};
+    ghost use Rattle.links.specs.Nodes.{column_in, option_in};
 
     // The column of the entry at node x, if it is one that is not shortened.
-    pub fn item(&self, x: usize) -> Option<usize>
+    pub fn column(&self, x: usize) -> Option<usize>
         requires { x < length self.now.heads.now }
-        ensures { result ≡ item_in (head self.now.heads.now x) }
+        ensures { result ≡ column_in (head self.now.heads.now x) }
     {
         let h = self.heads[x];
         if h > 0 { Some(h as usize) } else { None }
     }
 
     // The same where x is known to be such an entry; of a header, the length of its column.
-    pub fn number(&self, x: usize) -> usize
+    pub fn column_at(&self, x: usize) -> usize
         requires { (x < length self.now.heads.now) × (below_zero (head self.now.heads.now x) ≡ false) }
         ensures { result ≡ item_of (head self.now.heads.now x) }
     {
@@ -69,7 +70,7 @@ impl<'a> Nodes<'a> {
     pub fn above(&self, x: usize) -> usize
         requires { x < length self.now.up.now }
         ensures node { result ≡ at self.now.up.now x }
-        ensures small { result < 4294967296 }
+        ensures small { result < word_bound }
     {
         self.up[x] as usize
     }
@@ -77,7 +78,7 @@ impl<'a> Nodes<'a> {
     pub fn below(&self, x: usize) -> usize
         requires { x < length self.now.down.now }
         ensures node { result ≡ at self.now.down.now x }
-        ensures small { result < 4294967296 }
+        ensures small { result < word_bound }
     {
         self.down[x] as usize
     }
@@ -88,7 +89,7 @@ impl<'a> Nodes<'a> {
     ghost use Rattle.links.specs.Nodes.{SameNodes};
 
     pub fn set_above(&mut self, x: usize, y: usize)
-        requires { (y < 1048576) × (x < length self.old.up.now) }
+        requires { (y < node_bound) × (x < length self.old.up.now) }
         ensures nodes { SameNodes self.old self.new }
         ensures heads { self.new.heads.now ≡ self.old.heads.now }
         ensures up { self.new.up.now ≡ set self.old.up.now x y }
@@ -98,7 +99,7 @@ impl<'a> Nodes<'a> {
     }
 
     pub fn set_below(&mut self, x: usize, y: usize)
-        requires { (y < 1048576) × (x < length self.old.down.now) }
+        requires { (y < node_bound) × (x < length self.old.down.now) }
         ensures nodes { SameNodes self.old self.new }
         ensures heads { self.new.heads.now ≡ self.old.heads.now }
         ensures up { self.new.up.now ≡ self.old.up.now }
@@ -108,8 +109,8 @@ impl<'a> Nodes<'a> {
     }
 
     // Writes an entry's column, or a column's length, or 0.
-    pub fn set_item(&mut self, x: usize, i: usize)
-        requires { (i < 1048576) × (x < length self.old.heads.now) }
+    pub fn set_head(&mut self, x: usize, i: usize)
+        requires { (i < node_bound) × (x < length self.old.heads.now) }
         ensures nodes { SameNodes self.old self.new }
         ensures heads { self.new.heads.now ≡ set self.old.heads.now x (pos i) }
         ensures up { self.new.up.now ≡ self.old.up.now }
@@ -120,7 +121,7 @@ impl<'a> Nodes<'a> {
 
     // Writes the boundary after option k.
     pub fn set_boundary(&mut self, x: usize, k: u32)
-        requires { (k < 1048576) × (x < length self.old.heads.now) }
+        requires { (k < node_bound) × (x < length self.old.heads.now) }
         ensures nodes { SameNodes self.old self.new }
         ensures heads { self.new.heads.now ≡ set self.old.heads.now x (negsuc k) }
         ensures up { self.new.up.now ≡ self.old.up.now }

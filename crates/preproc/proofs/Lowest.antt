@@ -10,6 +10,7 @@ use borrow.Author.Tests.{lt-ltb, le-ltb}
 use lib.Dec.{T, ltb}
 use lib.ListN.{length}
 use Rattle.std.specs.Prelude.{Option, Some, None, MatchOption}
+use Rattle.rules.specs.Bounds.{node_bound}
 use lib.IntN.{ℤ}
 use Rattle.rules.specs.Lists.{from, up_to, first_that}
 use Rattle.rules.specs.State.{in_live}
@@ -46,7 +47,7 @@ module _ {g : Ground} {np : ℕ} {heads : List ℤ} (k : Looking g np heads) whe
         let t = k.ready.tidy in
         rw k.heads-are (omega (arith, k.few, t.planned.room, t.heads-in))
 
-    pub look-small : i + 1 < 1048576
+    pub look-small : i + 1 < node_bound
     look-small = let t = k.ready.tidy in omega (arith, k.few, t.planned.room, t.planned.small)
 
     live-is : in_live i (state_of g) ≡ ltb 0 (item_of (head heads (i + 1)))

@@ -11,6 +11,7 @@ use lib.Dec.{ltb}
 use lib.ListN.{length}
 use lib.IntN.{ℤ}
 use Rattle.std.specs.Prelude.{Ok, Err}
+use Rattle.rules.specs.Bounds.{node_bound}
 use Rattle.rules.specs.Paper.{cause_number}
 use Rattle.rules.specs.Lists.{from}
 use Rattle.rules.specs.State.{State, Step, went, in_live}
@@ -31,12 +32,12 @@ goes-plan : {P Q : Plan} {x : Step} {more : Bool} {heads : List ℤ} {up down ti
 goes-plan {x = x} {more = more} {heads} {up} {down} {tints} {marks} e t = subst (λ (X : Plan). (s : State) × (x ≡ went s more) × Holding X s heads up down tints marks) e t
 
 -- A round is at item i: the lists hold the state, and the rest of the round is the rules' rest.
-pub record Going (P : Plan) (total : Step) (np n i : ℕ) (removed : Bool) (heads : List ℤ) (up down tints marks : List ℕ) : Type 0 where
+pub record RoundAt (P : Plan) (total : Step) (np n i : ℕ) (removed : Bool) (heads : List ℤ) (up down tints marks : List ℕ) : Type 0 where
   pub state : State
   pub holding : Holding P state heads up down tints marks
   pub rest : total ≡ item_steps np (from i (n - i)) state removed
 
-pub round-begin : {g : Ground} (np n : ℕ) {heads : List ℤ} {up down tints marks : List ℕ} → Standing g heads up down tints marks → Going g.plan (round np n (state_of g)) np n 0 false heads up down tints marks
+pub round-begin : {g : Ground} (np n : ℕ) {heads : List ℤ} {up down tints marks : List ℕ} → Standing g heads up down tints marks → RoundAt g.plan (round np n (state_of g)) np n 0 false heads up down tints marks
 round-begin {g} np n s = record {
   state = state_of g;
   holding = record { ground = g; plan = refl; shows = refl; standing = s };
@@ -44,7 +45,7 @@ round-begin {g} np n s = record {
 }
 
 module _ {P : Plan} {first np n : ℕ} (f : Figured P first np) (m : n ≡ P.n) where
-  module _ {total : Step} {i : ℕ} {removed : Bool} {heads : List ℤ} {up down tints marks : List ℕ} (G : Going P total np n i removed heads up down tints marks) where
+  module _ {total : Step} {i : ℕ} {removed : Bool} {heads : List ℤ} {up down tints marks : List ℕ} (G : RoundAt P total np n i removed heads up down tints marks) where
     -- at the end nothing is left
     pub round-end : n ≤ i → Stepped P total (Ok removed) heads up down tints marks
     round-end l = record {
@@ -68,7 +69,7 @@ module _ {P : Plan} {first np n : ℕ} (f : Figured P first np) (m : n ≡ P.n) 
           let w = G.holding.standing in
           rw w.holds.heads-are (omega (arith, header-before G.holding.ground.plan w.ready.tidy.planned (i + 1) round-header, w.ready.tidy.planned.room, w.ready.tidy.heads-in))
 
-      pub round-small : i + 1 < 1048576
+      pub round-small : i + 1 < node_bound
       round-small = let w = G.holding.standing in omega (arith, header-before G.holding.ground.plan w.ready.tidy.planned (i + 1) round-header, w.ready.tidy.planned.room, w.ready.tidy.planned.small)
 
       one_more : total ≡ item_steps np (i ∷ from (i + 1) (n - (i + 1))) G.state removed
@@ -84,7 +85,7 @@ module _ {P : Plan} {first np n : ℕ} (f : Figured P first np) (m : n ≡ P.n) 
           ∙ ap (λ (x : List ℤ). ltb 0 (item_of (head x (i + 1)))) (sym w.holds.heads-are)
 
       -- an item in no option is passed over
-      pub round-over : item_of (head heads (i + 1)) ≡ 0 → Going P total np n (i + 1) removed heads up down tints marks
+      pub round-over : item_of (head heads (i + 1)) ≡ 0 → RoundAt P total np n (i + 1) removed heads up down tints marks
       round-over z = record {
         state = G.state;
         holding = G.holding;
@@ -107,7 +108,7 @@ module _ {P : Plan} {first np n : ℕ} (f : Figured P first np) (m : n ≡ P.n) 
         }
 
         pub round-next : {more : Bool} {heads' : List ℤ} {up' down' tints' marks' : List ℕ} → Stepped G.holding.ground.plan (item_step np i (state_of G.holding.ground)) (Ok more) heads' up' down' tints' marks'
-            → Going P total np n (i + 1) (removed || more) heads' up' down' tints' marks'
+            → RoundAt P total np n (i + 1) (removed || more) heads' up' down' tints' marks'
         round-next {more} t =
             let w = goes-plan G.holding.plan t.goes in
             record {

@@ -45,9 +45,9 @@ pub fn round(nodes: &mut Nodes, tints: &mut [u32], marks: &mut [u32]) -> Result<
         → in_nodes (Stepped g.plan (round_of nodes.old.np nodes.old.n (state_of g)) result) nodes.new tints.new marks.new }
 {
     let mut removed = false;
-    for i in 0..nodes.n {
-        if !nodes.is_empty(i + 1) {
-            removed |= reduce_options(nodes, tints, marks, i + 1)?;
+    for item in 0..nodes.n {
+        if !nodes.is_empty(item + 1) {
+            removed |= reduce_options(nodes, tints, marks, item + 1)?;
         }
     }
     Ok(removed)
@@ -67,19 +67,19 @@ pub fn rounds(
         → Figured g.plan nodes.old.start nodes.old.np → nodes.old.n ≡ g.plan.n
         → in_nodes (Ended g.plan (rounds_of nodes.old.np nodes.old.n cap 0 (state_of g)) result) nodes.new tints.new marks.new }
 {
-    for r in 0..cap {
+    for run in 0..cap {
         // the three ends of a round, side by side
         match round(nodes, tints, marks) {
             Err(Stop { column, cause }) => {
                 return Err(Infeasible {
                     column,
                     cause,
-                    round: r + 1,
+                    round: run + 1,
                 });
             }
             Ok(false) => {
                 return Ok(Done {
-                    rounds: r + 1,
+                    rounds: run + 1,
                     settled: true,
                 });
             }

@@ -3,6 +3,7 @@
 use Prim.Native.Nat.{ℕ, ◌+◌, ◌<◌, ◌≤◌}
 use native.Mathlib.Omega.{arith}
 use mathlib.Core.Path.{◌≡◌, refl, ◌∙◌, ap, sym, subst}
+use Rattle.rules.specs.Bounds.{node_bound}
 use mathlib.Core.Logic.{⊎_elim, ◌≢◌}
 use mathlib.Core.Bool.{Bool, true, false}
 use mathlib.Core.List.{List, [], ◌∷◌, ◌++◌}
@@ -48,7 +49,7 @@ module _ {g : Ground} {r : ℕ} {heads₀ : List ℤ} {up₀ down₀ : List ℕ}
   e : EntryOf g.plan r
   e = d.entry
 
-  pub deletes-fits : r + 1 < 1048576
+  pub deletes-fits : r + 1 < node_bound
   deletes-fits = omega (arith, entry-till g.plan t.planned r e, t.planned.small)
 
   pub deletes-room : g.plan.N ≤ length heads₀
@@ -73,7 +74,7 @@ module _ {g : Ground} {r : ℕ} {heads₀ : List ℤ} {up₀ down₀ : List ℕ}
       fresh = walked-fresh q m.place
 
       -- the place is within the lists
-      pub midway-in : (q < length heads) × (q < length up) × (q + 1 < 1048576)
+      pub midway-in : (q < length heads) × (q < length up) × (q + 1 < node_bound)
       midway-in =
           let l = taken-lengths g (walked g r q) in
           let i = place_in g t r e q m.place in

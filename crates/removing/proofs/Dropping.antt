@@ -2,6 +2,7 @@
 use Prim.Native.Nat.{ℕ, ◌+◌, ◌-◌, ◌<◌}
 use native.Mathlib.Omega.{arith}
 use mathlib.Core.Path.{◌≡◌, ◌∙◌, ap, subst}
+use Rattle.rules.specs.Bounds.{node_bound}
 use mathlib.Core.Bool.{Bool, true, false, cond}
 use mathlib.Core.List.{List, []}
 use lib.ListN.{length, set}
@@ -17,7 +18,7 @@ module _ (g : Ground) (r : ℕ) (heads : List ℤ) (up down : List ℕ) (d : Del
   pub drop-walk : Walking g r heads up
   drop-walk = record { tidy = d.tidy; entry = d.entry; heads-are = d.holds.heads-are; up-are = d.holds.up-are }
 
-  pub drop-asks : (0 < r) × (r + 1 < 1048576) × (r < length heads) × (r < length up) × (r < length down)
+  pub drop-asks : (0 < r) × (r + 1 < node_bound) × (r < length heads) × (r < length up) × (r < length down)
   drop-asks =
       let t = d.tidy in
       let from = entry-from g.plan t.planned r d.entry in

@@ -40,7 +40,7 @@ going g c p k = gather_to (leaving g c p) g k
 abbrev pub midst : Ground → ℕ → ℕ → ℕ → List ℤ → List ℕ → List ℕ → Ground
 midst g c p k heads up down = record { plan = g.plan; on = (taken (off_column g c) (going g c p k)).on; heads = heads; up = up; down = down }
 
-pub record Going (g : Ground) (c p np : ℕ) (heads : List ℤ) (up down : List ℕ) (k : ℕ) : Type 0 where
+pub record RemovalAt (g : Ground) (c p np : ℕ) (heads : List ℤ) (up down : List ℕ) (k : ℕ) : Type 0 where
   pub tidy : Tidy (midst g c p k heads up down)
   -- only entries of column c are shortened: those passed whose option holds p
   pub same : (y : ℕ) → EntryOf g.plan y → (g.on y ≡ true → g.plan.col y ≢ c) → head heads y ≡ head g.heads y
@@ -53,13 +53,13 @@ module _ (g : Ground) (R : Ready g) (c p np : ℕ) where
   t : Tidy g
   t = R.tidy
 
-  pub going-begin : Going g c p np g.heads g.up g.down 0
+  pub going-begin : RemovalAt g c p np g.heads g.up g.down 0
   unfolding off_column
   going-begin = record { tidy = tidy-off g c t; same = λ y e n. refl; short = λ y e o q l s. absurd (omega arith); ahead = λ y o q l. refl; none = refl }
 
   module _ (heads : List ℤ) (up down : List ℕ) where
     -- past nodes that are no entries of the column
-    pub going-past : (k m : ℕ) → Going g c p np heads up down k → k ≤ m → ((j : ℕ) → k ≤ j → j < m → in_column g c j ≡ false) → Going g c p np heads up down m
+    pub going-past : (k m : ℕ) → RemovalAt g c p np heads up down k → k ≤ m → ((j : ℕ) → k ≤ j → j < m → in_column g c j ≡ false) → RemovalAt g c p np heads up down m
     going-past k m G l free = record {
       tidy = subst (λ (xs : List ℕ). Tidy (record { plan = g.plan; on = (taken (off_column g c) xs).on; heads = heads; up = up; down = down })) (sym same-list) G.tidy;
       same = G.same;
@@ -72,7 +72,7 @@ module _ (g : Ground) (R : Ready g) (c p np : ℕ) where
         same-list = gather-same (leaving g c p) g k m l (λ j a b. rw (free j a b))
 
     -- One entry of the column more: its option loses it, or is deleted.
-    module _ (r : ℕ) (G : Going g c p np heads up down r) (e : EntryOf g.plan r) (o : g.on r ≡ true) (q : g.plan.col r ≡ c) (apart : c ≢ p) where
+    module _ (r : ℕ) (G : RemovalAt g c p np heads up down r) (e : EntryOf g.plan r) (o : g.on r ≡ true) (q : g.plan.col r ≡ c) (apart : c ≢ p) where
       -- an entry of column c is out of sight, and another entry of this option is in another column
       own-off : (y : ℕ) → g.plan.col y ≡ c → (midst g c p r heads up down).on y ≡ false
       own-off y s = off-taken (off_column g c) (going g c p r) y (off-own g c y s)
@@ -111,7 +111,7 @@ module _ (g : Ground) (R : Ready g) (c p np : ℕ) where
           as_before : going g c p (r + 1) ≡ going g c p r
           as_before = gather_none (leaving g c p) g r (leaving-is g R c p r e o q ∙ ap not yes)
 
-          going-short : Holds (shortened (midst g c p r heads up down) r) heads' up' down' → Going g c p np heads' up' down' (r + 1)
+          going-short : Holds (shortened (midst g c p r heads up down) r) heads' up' down' → RemovalAt g c p np heads' up' down' (r + 1)
           unfolding shortened
           going-short H = record {
             tidy = subst (λ (xs : List ℕ). Tidy (record { plan = g.plan; on = (taken (off_column g c) xs).on; heads = heads'; up = up'; down = down' })) (sym as_before)
@@ -149,7 +149,7 @@ module _ (g : Ground) (R : Ready g) (c p np : ℕ) where
               ∙ sym (first-none (off_column g c) np (going g c p r) (others g r) (tidy-off g c t) so_far G.none)
               ∙ ap (first_out (off_column g c) np) (sym one_more)
 
-          going-delete : first_out (midst g c p r heads up down) np (others g r) ≡ 0 → Holds (taken (midst g c p r heads up down) (others g r)) heads' up' down' → Going g c p np heads' up' down' (r + 1)
+          going-delete : first_out (midst g c p r heads up down) np (others g r) ≡ 0 → Holds (taken (midst g c p r heads up down) (others g r)) heads' up' down' → RemovalAt g c p np heads' up' down' (r + 1)
           going-delete z H = record {
             tidy = subst Tidy ground (taken-tidy (midst g c p r heads up down) (others g r) G.tidy fresh);
             same = λ y b n. head-kept y b ∙ G.same y b n;
@@ -190,10 +190,10 @@ module _ (g : Ground) (R : Ready g) (c p np : ℕ) where
               go true y w = w ∙ sym G.none ∙ ap (first_out (off_column g c) np) (sym (as_before y))
               go false n w = w ∙ going-first n
 
-          pub passed-going : z ≡ 0 → Going g c p np heads' up' down' (r + 1)
+          pub passed-going : z ≡ 0 → RemovalAt g c p np heads' up' down' (r + 1)
           passed-going e = go (holds_column g (g.plan.number r) p) refl went (left e)
             where
               go : (b : Bool) → holds_column g (g.plan.number r) p ≡ b → z ≡ first_out (midst g c p r heads up down) np (cond b [] (others g r))
-                  → Holds (cond b (shortened (midst g c p r heads up down) r) (taken (midst g c p r heads up down) (others g r))) heads' up' down' → Going g c p np heads' up' down' (r + 1)
+                  → Holds (cond b (shortened (midst g c p r heads up down) r) (taken (midst g c p r heads up down) (others g r))) heads' up' down' → RemovalAt g c p np heads' up' down' (r + 1)
               go true y w H = going-short y H
               go false n w H = going-delete n (sym w ∙ e) H

@@ -1,7 +1,8 @@
--- Looking round an option for a column: each step of the walk, and that what it tells is whether the option holds the item. Assumes nothing.
+-- HoldingAt round an option for a column: each step of the walk, and that what it tells is whether the option holds the item. Assumes nothing.
 use Prim.Native.Nat.{ℕ, ◌+◌, ◌<◌, ◌≤◌}
 use native.Mathlib.Omega.{arith}
 use mathlib.Core.Path.{◌≡◌, ◌∙◌, ap, sym, subst}
+use Rattle.rules.specs.Bounds.{node_bound}
 use mathlib.Core.Logic.{◌≢◌}
 use mathlib.Core.Bool.{Bool, true, false, ◌||◌}
 use mathlib.Core.List.{List, [], ◌∷◌}
@@ -27,7 +28,7 @@ use Rattle.removing.proofs.Fronts.{walked-front}
 use Rattle.removing.proofs.Leaving.{holds→, holds←}
 
 -- The walk is at q, and has met no entry of column p.
-pub record Looking (g : Ground) (r p q : ℕ) : Type 0 where
+pub record HoldingAt (g : Ground) (r p q : ℕ) : Type 0 where
   pub place : At g r q
   pub none : any (λ y. eqb (g.plan.col y) p) (walked g r q) ≡ false
 
@@ -41,15 +42,15 @@ module _ {g : Ground} {r : ℕ} {heads : List ℤ} {up : List ℕ} (w : Walking 
   room : g.plan.N ≤ length heads
   room = rw w.heads-are t.heads-in
 
-  pub looks-fits : r + 1 < 1048576
+  pub looks-fits : r + 1 < node_bound
   looks-fits = omega (arith, entry-till g.plan t.planned r e, t.planned.small)
 
   module _ {p : ℕ} where
-    pub looks-begin : Looking g r p (r + 1)
+    pub looks-begin : HoldingAt g r p (r + 1)
     looks-begin = record { place = walk_begins g t r e; none = ap (any (λ y. eqb (g.plan.col y) p)) (walked_none g t r e) }
 
-    module _ {q : ℕ} (m : Looking g r p q) where
-      pub looks-in : (q < length heads) × (q < length up) × (q + 1 < 1048576)
+    module _ {q : ℕ} (m : HoldingAt g r p q) where
+      pub looks-in : (q < length heads) × (q < length up) × (q + 1 < node_bound)
       looks-in =
           let i = place_in g t r e q m.place in
           (omega (arith, i, room), rw w.up-are (omega (arith, i, t.ring.ups)), omega (arith, i, t.planned.small))
@@ -60,7 +61,7 @@ module _ {g : Ground} {r : ℕ} {heads : List ℤ} {up : List ℕ} (w : Walking 
           bare : item_of (head g.heads q) ≡ 0
           bare = rw w.heads-are at z
 
-          pub looks-over : Looking g r p (at up q)
+          pub looks-over : HoldingAt g r p (at up q)
           looks-over =
               rw w.up-are
               (record { place = over-at g t r e q m.place other bare; none = ap (any (λ y. eqb (g.plan.col y) p)) (over-walked g t r e q m.place other bare) ∙ m.none })
@@ -85,7 +86,7 @@ module _ {g : Ground} {r : ℕ} {heads : List ℤ} {up : List ℕ} (w : Walking 
               ∙ any_append (λ y. eqb (g.plan.col y) p) (walked g r q) (q ∷ [])
               ∙ ap (λ (b : Bool). b || (eqb (g.plan.col q) p || false)) m.none
 
-          pub looks-next : item_of (head heads q) ≢ p → Looking g r p (q + 1)
+          pub looks-next : item_of (head heads q) ≢ p → HoldingAt g r p (q + 1)
           looks-next d = record { place = full_at g t r e q m.place some; none = so_far ∙ rw (ne_eqb (g.plan.col q) p (λ s. d (item-is ∙ s))) }
 
           pub looks-found : item_of (head heads q) ≡ p → true ≡ holds_other g r p

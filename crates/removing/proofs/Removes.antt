@@ -3,6 +3,7 @@
 use Prim.Native.Nat.{ℕ, ◌+◌, ◌<◌, ◌≤◌}
 use native.Mathlib.Omega.{arith}
 use mathlib.Core.Path.{◌≡◌, refl, ◌∙◌, ap, sym, subst}
+use Rattle.rules.specs.Bounds.{node_bound}
 use mathlib.Core.Logic.{inl, inr, ⊎_elim, ◌≢◌}
 use mathlib.Core.Bool.{Bool, true, false, not, ◌||◌, false≢true}
 use mathlib.Core.List.{List}
@@ -28,12 +29,12 @@ use Rattle.removing.proofs.OffColumn.{off→}
 use Rattle.removing.proofs.EmptyColumn.{tidy-empty}
 use Rattle.removing.proofs.Leaving.{holds←}
 use Rattle.removing.proofs.Staying.{keeps, stays→, →stays, stays_same}
-use Rattle.removing.proofs.Going.{going, midst, Going, going-begin, going-past, going-deletes, passed_first, passed-going}
+use Rattle.removing.proofs.Going.{going, midst, RemovalAt, going-begin, going-past, going-deletes, passed_first, passed-going}
 
 -- A walk down the column at node r has passed the nodes below r, and all of them when it is at the header again.
-pub record Place (g : Ground) (c p np : ℕ) (heads : List ℤ) (up down : List ℕ) (r : ℕ) : Type 0 where
+pub record AtNode (g : Ground) (c p np : ℕ) (heads : List ℤ) (up down : List ℕ) (r : ℕ) : Type 0 where
   pub stand : Stand g c r
-  pub so_far : Going g c p np heads up down (reach g.plan r)
+  pub so_far : RemovalAt g c p np heads up down (reach g.plan r)
 
 module _ {g : Ground} {c p first : ℕ} {heads₀ : List ℤ} {up₀ down₀ : List ℕ} (Q : Removing g c p first heads₀ up₀ down₀) where
   R : Ready g
@@ -46,7 +47,7 @@ module _ {g : Ground} {c p first : ℕ} {heads₀ : List ℤ} {up₀ down₀ : L
   remove-in = rw Q.holds.down-are (omega (arith, header-before g.plan t.planned c Q.item, t.planned.room, t.ring.downs))
 
   module _ {np : ℕ} where
-    pub remove-begin : Place g c p np heads₀ up₀ down₀ (at down₀ c)
+    pub remove-begin : AtNode g c p np heads₀ up₀ down₀ (at down₀ c)
     remove-begin = rw (Q.holds.heads-are, Q.holds.up-are, Q.holds.down-are) (record {
       stand = stand-next g t c Q.item c top;
       so_far = going-past g R c p np g.heads g.up g.down 0 (reach g.plan (at g.down c)) (going-begin g R c p np) (omega arith)
@@ -56,7 +57,7 @@ module _ {g : Ground} {c p first : ℕ} {heads₀ : List ℤ} {up₀ down₀ : L
         top : Stand g c c
         top = stand-header g t c Q.item (R.whole.headers c Q.item)
 
-    module _ {heads : List ℤ} {up down : List ℕ} {r : ℕ} (M : Place g c p np heads up down r) where
+    module _ {heads : List ℤ} {up down : List ℕ} {r : ℕ} (M : AtNode g c p np heads up down r) where
       pub remove-node : (r < length heads₀) × (r < length down₀)
       remove-node =
           let i = stand-in g t c Q.item r M.stand in
@@ -70,8 +71,8 @@ module _ {g : Ground} {c p first : ℕ} {heads₀ : List ℤ} {up₀ down₀ : L
         entry : EntryOf g.plan r
         entry = on-entry g t r M.stand.on behind
 
-        here : Going g c p np heads up down r
-        here = subst (Going g c p np heads up down) (reach-at g.plan r behind) M.so_far
+        here : RemovalAt g c p np heads up down r
+        here = subst (RemovalAt g c p np heads up down) (reach-at g.plan r behind) M.so_far
 
         pub remove-deletes : Deleting (midst g c p r heads up down) r heads up down
         remove-deletes = going-deletes g R c p np heads up down r here entry M.stand.on M.stand.col Q.apart
@@ -91,9 +92,9 @@ module _ {g : Ground} {c p first : ℕ} {heads₀ : List ℤ} {up₀ down₀ : L
             same = λ e. absurd (n e);
           }
 
-          pub remove-next : z ≡ 0 → {next : ℕ} → next ≡ at down r → Place g c p np heads' up' down' next
+          pub remove-next : z ≡ 0 → {next : ℕ} → next ≡ at down r → AtNode g c p np heads' up' down' next
           remove-next e {next} s =
-              subst (Place g c p np heads' up' down') (sym (onwards next s))
+              subst (AtNode g c p np heads' up' down') (sym (onwards next s))
               (record {
                 stand = stand-next g t c Q.item r M.stand;
                 so_far = going-past g R c p np heads' up' down' (r + 1) (reach g.plan (at g.down r))
@@ -107,13 +108,13 @@ module _ {g : Ground} {c p first : ℕ} {heads₀ : List ℤ} {up₀ down₀ : L
 
       -- at the header again
       module _ (l : r < first) where
-        done : Going g c p np heads up down g.plan.N
-        done = subst (Going g c p np heads up down) (reach-past g.plan r (omega (arith, l, Q.starts))) M.so_far
+        done : RemovalAt g c p np heads up down g.plan.N
+        done = subst (RemovalAt g c p np heads up down) (reach-past g.plan r (omega (arith, l, Q.starts))) M.so_far
 
         before : c < g.plan.N
         before = omega (arith, header-before g.plan t.planned c Q.item, t.planned.room)
 
-        pub remove-asks : (c < 1048576) × (c < length heads) × (c < length up) × (c < length down)
+        pub remove-asks : (c < node_bound) × (c < length heads) × (c < length up) × (c < length down)
         remove-asks = (omega (arith, before, t.planned.small), omega (arith, before, done.tidy.heads-in), omega (arith, before, done.tidy.ring.ups), omega (arith, before, done.tidy.ring.downs))
 
         module _ {heads' : List ℤ} {up' down' : List ℕ} (a : heads' ≡ set heads c (pos 0)) (b : up' ≡ set up c c) (d : down' ≡ set down c c) where

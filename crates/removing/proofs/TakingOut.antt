@@ -2,6 +2,7 @@
 use Prim.Native.Nat.{ℕ, ◌-◌, ◌<◌}
 use native.Mathlib.Omega.{arith}
 use mathlib.Core.Path.{◌≡◌, refl, ◌∙◌, ap, sym}
+use Rattle.rules.specs.Bounds.{node_bound}
 use mathlib.Core.Logic.{◌⊎◌, ◌≢◌, ⊎_elim}
 use mathlib.Core.Bool.{Bool, true, false, ◌&&◌, cond}
 use mathlib.Core.List.{List, [], ◌∷◌}
@@ -42,7 +43,7 @@ module _ {g : Ground} {x : ℕ} {heads : List ℤ} {up down : List ℕ} (s : Sit
     pub sits-some : 0 < i
     sits-some = rw sits-item (t.planned.entry x w.entry).above
 
-    pub sits-length : (i < length heads) × (item_of (head heads i) < 1048576) × (0 < item_of (head heads i))
+    pub sits-length : (i < length heads) × (item_of (head heads i) < node_bound) × (0 < item_of (head heads i))
     sits-length = rw (sits-item, s.holds.heads-are) (col-in g t x w, length-small g t x w, length_some g t x w)
 
     -- the lists afterwards

@@ -17,7 +17,7 @@ pub fn take_out(nodes: &mut Nodes, x: usize) -> Result<(), Emptied>
         → (z : ℕ) × (result ≡ ending z) × in_nodes (Deleted g nodes.old.np (x ∷ [])) nodes.new z }
 {
     // the head of an entry that isn't shortened is its column
-    let i = nodes.number(x);
+    let i = nodes.column_at(x);
     nodes.unlink(x);
     if nodes.fewer(i) == 0 && i <= nodes.np {
         return Err(Emptied { column: i });
@@ -36,7 +36,7 @@ pub fn delete_others(nodes: &mut Nodes, r: usize) -> Result<(), Emptied>
     let mut q = r + 1;
     // a walk along links: each node says which is next
     while q != r {
-        match nodes.item(q) {
+        match nodes.column(q) {
             // a boundary, or an entry that was shortened: the link up leads on
             None => q = nodes.above(q),
             Some(_) => {

@@ -1,5 +1,6 @@
 // Removing an item: each option that holds it is deleted or shortened, and its column is empty then.
 ghost use Rattle.std.specs.Prelude.{◌≡◌, List, [], ◌∷◌, ℕ, ◌+◌, ◌-◌, ◌<◌, length, set, ℤ, pos};
+ghost use Rattle.rules.specs.Bounds.{node_bound};
 ghost use Rattle.links.specs.Ending.{ending};
 ghost use Rattle.links.specs.Ground.{Ground};
 ghost use Rattle.links.specs.Nodes.{in_nodes, SameNodes};
@@ -19,7 +20,7 @@ pub fn holds_item(nodes: &Nodes, r: usize, p: usize) -> bool
     let mut q = r + 1;
     // a walk along links, as in `delete_others`
     while q != r {
-        match nodes.item(q) {
+        match nodes.column(q) {
             None => q = nodes.above(q),
             Some(i) => {
                 if i == p {
@@ -34,7 +35,7 @@ pub fn holds_item(nodes: &Nodes, r: usize, p: usize) -> bool
 
 // Shortens r's option by r: a walk steps over r either way from now on.
 pub fn shorten(nodes: &mut Nodes, r: usize)
-    requires { (0 < r) × (r + 1 < 1048576) × (r < length nodes.old.heads.now) × (r < length nodes.old.up.now) × (r < length nodes.old.down.now) }
+    requires { (0 < r) × (r + 1 < node_bound) × (r < length nodes.old.heads.now) × (r < length nodes.old.up.now) × (r < length nodes.old.down.now) }
     ensures nodes { SameNodes nodes.old nodes.new }
     ensures heads { nodes.new.heads.now ≡ set nodes.old.heads.now r (pos 0) }
     ensures up { nodes.new.up.now ≡ set nodes.old.up.now r (r + 1) }
@@ -42,7 +43,7 @@ pub fn shorten(nodes: &mut Nodes, r: usize)
 {
     nodes.set_above(r, r + 1);
     nodes.set_below(r, r - 1);
-    nodes.set_item(r, 0);
+    nodes.set_head(r, 0);
 }
 
 // Shortens r's option where it holds p, else deletes its other entries.
@@ -62,7 +63,7 @@ pub fn delete_or_shorten(nodes: &mut Nodes, r: usize, p: usize) -> Result<(), Em
 
 // Column c is empty.
 pub fn clear_column(nodes: &mut Nodes, c: usize)
-    requires { (c < 1048576) × (c < length nodes.old.heads.now) × (c < length nodes.old.up.now) × (c < length nodes.old.down.now) }
+    requires { (c < node_bound) × (c < length nodes.old.heads.now) × (c < length nodes.old.up.now) × (c < length nodes.old.down.now) }
     ensures nodes { SameNodes nodes.old nodes.new }
     ensures heads { nodes.new.heads.now ≡ set nodes.old.heads.now c (pos 0) }
     ensures up { nodes.new.up.now ≡ set nodes.old.up.now c c }
@@ -70,7 +71,7 @@ pub fn clear_column(nodes: &mut Nodes, c: usize)
 {
     nodes.set_above(c, c);
     nodes.set_below(c, c);
-    nodes.set_item(c, 0);
+    nodes.set_head(c, 0);
 }
 
 // Removes item c (its column), redundant for p: options that hold c lose it where they hold p, and are deleted where not, until a primary column is

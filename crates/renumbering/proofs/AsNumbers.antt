@@ -14,7 +14,7 @@ use Rattle.theorems.proofs.Words.Lists.{In-map, In-get_or}
 use Rattle.words.specs.Bytes.{numbers_of, bytes_of, ragged}
 use Rattle.words.proofs.Numbers.{Below, below_each, numbers-small, numbers-written}
 use Rattle.renumbering.specs.Bytes.{written_unless, compact_bytes_outcome}
-use Rattle.renumbering.specs.Parts.{Sound, AllKept}
+use Rattle.renumbering.specs.Parts.{Renumberable, AllKept}
 use Rattle.renumbering.proofs.Halving.{place-small}
 use Rattle.renumbering.proofs.Refusing.{accepted, whole-refused}
 use Rattle.renumbering.proofs.Calls.{as-renumbered}
@@ -24,7 +24,7 @@ abbrev pub in_numbers : Renumbered → Renumbered
 in_numbers o = record { number = o.number; place = o.place; out = numbers_of o.out }
 
 -- the places fit, since none is above its item
-places-fit : (kept : List ℕ) (primaries : ℕ) (items : List ℕ) → Sound kept primaries → AllKept kept items → Below 4294967296 items
+places-fit : (kept : List ℕ) (primaries : ℕ) (items : List ℕ) → Renumberable kept primaries → AllKept kept items → Below 4294967296 items
     → Below 4294967296 (map (compact_item kept primaries) items)
 places-fit kept primaries items s all small = below_each 4294967296 (map (compact_item kept primaries) items) (omega arith) each_fits
   where

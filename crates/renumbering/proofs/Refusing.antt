@@ -18,7 +18,7 @@ use Rattle.theorems.proofs.Words.Choices.{or_else-none}
 use Rattle.theorems.proofs.Checks.Accept.{refuse-none}
 use Rattle.words.specs.Bytes.{numbers_of, ragged}
 use Rattle.renumbering.specs.Bytes.{bytes_refusal}
-use Rattle.renumbering.specs.Parts.{Sound, AllKept}
+use Rattle.renumbering.specs.Parts.{Renumberable, AllKept}
 use Rattle.renumbering.proofs.Missing.{all-kept}
 
 -- a refusal as the table has it
@@ -43,11 +43,11 @@ module _ (kept : List ℕ) (primaries : ℕ) (items out : List ℕ) where
   unfolding renumber_refusal
   above-length r n h = rw (r, ne_eqb primaries 0 n, lt-ltb (length kept) primaries h)
 
-  pub sound-from : rising kept ≡ true → primaries ≢ 0 → primaries ≤ length kept → Sound kept primaries
+  pub sound-from : rising kept ≡ true → primaries ≢ 0 → primaries ≤ length kept → Renumberable kept primaries
   sound-from r n h = record { rises = r; some-primary = omega arith; within = h }
 
   -- 18, and 25 or none
-  module _ (s : Sound kept primaries) where
+  module _ (s : Renumberable kept primaries) where
     passes-24 : (not (rising kept) || eqb primaries 0 || ltb (length kept) primaries) ≡ false
     passes-24 = let z = s.some-primary in rw (s.rises, ne_eqb primaries 0 (λ e. absurd (omega arith)), le-ltb (length kept) primaries s.within)
 
@@ -65,7 +65,7 @@ module _ (kept : List ℕ) (primaries : ℕ) (items out : List ℕ) where
       nothing-wrong e = rw (passes-24, le-ltb (length out) (length items) room, sym e)
 
   -- what holds where there is no refusal
-  pub accepted : renumber_refusal kept primaries items out ≡ none → Sound kept primaries × AllKept kept items × (length items ≤ length out)
+  pub accepted : renumber_refusal kept primaries items out ≡ none → Renumberable kept primaries × AllKept kept items × (length items ≤ length out)
   unfolding renumber_refusal
   accepted e =
       let a = or_else-none (refuse 24 0 (not (rising kept) || eqb primaries 0 || ltb (length kept) primaries)) _ e in

@@ -13,7 +13,7 @@ use Rattle.rules.specs.Lists.{mem, place}
 use Rattle.rules.specs.Renumber.{sd, crate_item}
 use Rattle.theorems.proofs.Words.Tests.{T-dec, T-same, neqb→ne}
 use Rattle.theorems.proofs.Words.Places.{place-first, place-later}
-use Rattle.renumbering.specs.Parts.{Sound}
+use Rattle.renumbering.specs.Parts.{Renumberable}
 use Rattle.renumbering.proofs.Climbing.{rises, rises-to}
 use Rattle.renumbering.proofs.Halving.{place-present}
 
@@ -37,7 +37,7 @@ among_first (b ∷ l) (suc n) i h = go (T-dec (eqb i b)) (among_first l n i (ome
     go (inl t) r = let e = eqb→eq i b t in rw (eq-eqb i b e, place-first b l e) (sym (lt-ltb 0 (suc n) (omega arith)))
     go (inr t) r = let ne = neqb→ne i b t in rw (ne_eqb i b ne, place-later b l ne) (later (place l i) (mem i (take n l)) r)
 
-module _ (kept : List ℕ) (primaries : ℕ) (s : Sound kept primaries) where
+module _ (kept : List ℕ) (primaries : ℕ) (s : Renumberable kept primaries) where
   -- the last kept primary is below the first kept secondary
   pub gap : primaries < length kept → get_or kept (primaries - 1) 0 < get_or kept primaries 0
   gap h = rises kept s.rises (primaries - 1) primaries (omega (arith, s.some-primary)) h

@@ -13,7 +13,7 @@ abbrev pub place_below : ℕ → ℕ → Option ℕ
 place_below k n = cond (ltb k n) (some k) none
 
 -- a kept list with its count of primaries that 24 does not refuse
-pub record Sound (kept : List ℕ) (primaries : ℕ) : Type 0 where
+pub record Renumberable (kept : List ℕ) (primaries : ℕ) : Type 0 where
   pub rises : rising kept ≡ true
   pub some-primary : 0 < primaries
   pub within : primaries ≤ length kept

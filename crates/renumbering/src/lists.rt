@@ -2,7 +2,7 @@
 ghost use Rattle.std.specs.Prelude.{◌≡◌};
 ghost use Rattle.rules.specs.Renumber.{sd as sd_of, compact_outcome, crate_outcome};
 ghost use Rattle.renumbering.specs.Outcome.{outcome};
-ghost use Rattle.renumbering.specs.Parts.{Sound};
+ghost use Rattle.renumbering.specs.Parts.{Renumberable};
 
 use crate::answer::Unnumbered;
 use crate::checks::check;
@@ -10,7 +10,7 @@ use crate::write::write;
 
 // By how much the crate's numbers of secondaries are less (`sd` in p.rs `get_options`): first kept secondary minus last kept primary minus 1.
 fn sd(kept: &[u32], primaries: usize) -> u32
-    requires { Sound kept.now primaries }
+    requires { Renumberable kept.now primaries }
     ensures { result ≡ sd_of kept.now primaries }
 {
     if primaries < kept.len() {

@@ -23,8 +23,8 @@ use Rattle.links.proofs.Plans.{entry-from, entry-till}
 use Rattle.links.proofs.Tallies.{tally-some}
 use Rattle.showing.proofs.Columns.{column→}
 use Rattle.result.specs.Left.{lead_at, option_from, column_to, column_options, options_to}
-use Rattle.result.specs.Writing.{Out, Written, Suffices}
-use Rattle.result.specs.Reading.{Laid, ColumnAt, Holding, Returned}
+use Rattle.result.specs.Writing.{FourLists, Written, Suffices}
+use Rattle.result.specs.Reading.{NodesRead, ColumnAt, LongEnough, Returned}
 use Rattle.result.proofs.Filling.{filled_none}
 use Rattle.theorems.proofs.Answers.Joining.{length-ends}
 use Rattle.result.proofs.Lists.{length-numbers, length-colours, room-front}
@@ -41,7 +41,7 @@ options-more g c m =
 pub options-one : (g : Ground) (c : ℕ) → options_to g (c + 1) ≡ options_to g c ++ column_options g (c + 1)
 options-one g c = options-more g c 1 ∙ ap (λ (l : List Numbered). options_to g c ++ l) (append-nil (column_options g (c + 1)))
 
-module _ {g : Ground} {nodes : Nodes} {tints : List ℕ} (a : Laid g nodes tints) where
+module _ {g : Ground} {nodes : Nodes} {tints : List ℕ} (a : NodesRead g nodes tints) where
   ready : Ready g
   ready = a.standing.ready
 
@@ -65,7 +65,7 @@ module _ {g : Ground} {nodes : Nodes} {tints : List ℕ} (a : Laid g nodes tints
           let s = tally-some g.plan g.on y (entry-from g.plan ready.tidy.planned y w.0) (entry-till g.plan ready.tidy.planned y w.0) w.1 in
           omega (arith, s, ap (tally g.plan g.on) w.2, empty)
 
-  module _ {old : Out} (k : Holding (results_of nodes.n (shown g.plan g.on)) old) where
+  module _ {old : FourLists} (k : LongEnough (results_of nodes.n (shown g.plan g.on)) old) where
     -- there is room for all
     room : Suffices old (options_to g nodes.n)
     unfolding results_of
@@ -82,7 +82,7 @@ module _ {g : Ground} {nodes : Nodes} {tints : List ℕ} (a : Laid g nodes tints
     unfolding options_to
     all-begins = record { ends = filled_none old.ends; numbers = filled_none old.numbers; items = filled_none old.items; colours = filled_none old.colours }
 
-    module _ {lists : Out} {o e c : ℕ} (w : Written old lists (options_to g c) o e) where
+    module _ {lists : FourLists} {o e c : ℕ} (w : Written old lists (options_to g c) o e) where
       -- an empty column
       pub all-over : c < nodes.n → eqb (item_of (head nodes.heads.now (c + 1))) 0 ≡ true → Written old lists (options_to g (c + 1)) o e
       all-over h z =
@@ -117,5 +117,5 @@ module _ {g : Ground} {nodes : Nodes} {tints : List ℕ} (a : Laid g nodes tints
             v.items.at-is,
           )
 
-    pub all_one : (lists : Out) (o e c : ℕ) → Written old lists (options_to g c ++ column_options g (c + 1)) o e → Written old lists (options_to g (c + 1)) o e
+    pub all_one : (lists : FourLists) (o e c : ℕ) → Written old lists (options_to g c ++ column_options g (c + 1)) o e → Written old lists (options_to g (c + 1)) o e
     all_one lists o e c w = subst (λ (l : List Numbered). Written old lists l o e) (sym (options-one g c)) w

@@ -9,8 +9,8 @@ use Rattle.rules.specs.State.{State, items_of}
 use Rattle.rules.specs.Result.{kept_options, results_of}
 use Rattle.theorems.proofs.Answers.EachFacts.{each-lengths}
 use Rattle.theorems.proofs.Answers.KeptSizes.{entries-most}
-use Rattle.result.specs.Writing.{Out, items_in}
-use Rattle.result.specs.Reading.{Holding}
+use Rattle.result.specs.Writing.{FourLists, items_in}
+use Rattle.result.specs.Reading.{LongEnough}
 use Rattle.theorems.proofs.Answers.Joining.{length-ends}
 use Rattle.result.proofs.Lists.{length-numbers, length-colours}
 
@@ -21,8 +21,8 @@ items-most n s =
     let b = each-lengths (λ x. items_of x.entries) (λ x. x.entries) (kept_options n s) (λ x. length-map x.entries (λ (e : Entry). e.item)) in
     omega arith
 
-pub enough : (n : ℕ) (s : State) (old : Out) → length (kept_options n s) ≤ length old.ends → length (kept_options n s) ≤ length old.numbers
-    → length (results_of n s).items ≤ length old.items → length (results_of n s).items ≤ length old.colours → Holding (results_of n s) old
+pub enough : (n : ℕ) (s : State) (old : FourLists) → length (kept_options n s) ≤ length old.ends → length (kept_options n s) ≤ length old.numbers
+    → length (results_of n s).items ≤ length old.items → length (results_of n s).items ≤ length old.colours → LongEnough (results_of n s) old
 unfolding results_of
 enough n s old a b c d = record {
   ends = omega (arith, length-ends 0 (kept_options n s));

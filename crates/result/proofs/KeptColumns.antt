@@ -19,10 +19,10 @@ use Rattle.links.proofs.Spans.{In-span, keep_join}
 use Rattle.showing.proofs.Results.{kept-items}
 use Rattle.result.specs.Filled.{Filled}
 use Rattle.result.specs.Kept.{kept_from}
-use Rattle.result.specs.Reading.{Standing}
+use Rattle.result.specs.Reading.{HeadsRead}
 use Rattle.result.proofs.Filling.{filled_then}
 
-module _ (g : Ground) (n : ℕ) (heads : List ℤ) (s : Standing g n heads) where
+module _ (g : Ground) (n : ℕ) (heads : List ℤ) (s : HeadsRead g n heads) where
   pub columns-kept : kept_from heads 0 n ≡ kept_items n (shown g.plan g.on)
   columns-kept =
       let e : n - 0 ≡ g.plan.n = omega (arith, s.items-are) in

@@ -9,7 +9,7 @@ use Rattle.rules.specs.State.{items_of}
 use Rattle.rules.specs.Result.{Numbered, ends_from, numbers_of, colours_of}
 use Rattle.theorems.proofs.Words.Lists.{each_append}
 use Rattle.theorems.proofs.Answers.EachFacts.{each-lengths}
-use Rattle.result.specs.Writing.{Out, items_in, colours_in, Suffices}
+use Rattle.result.specs.Writing.{FourLists, items_in, colours_in, Suffices}
 
 pub items-one : (xs : List Numbered) (x : Numbered) → items_in (xs ++ (x ∷ [])) ≡ items_in xs ++ items_of x.entries
 items-one xs x = each_append (λ x. items_of x.entries) xs (x ∷ []) ∙ ap (λ (l : List ℕ). items_in xs ++ l) (append-nil (items_of x.entries))
@@ -47,7 +47,7 @@ length-colours xs =
     (λ x. length-map x.entries (λ (e : Entry). e.colour) ∙ sym (length-map x.entries (λ (e : Entry). e.item)))
 
 -- Room for some of the options.
-pub room-front : (old : Out) (xs ys : List Numbered) → Suffices old (xs ++ ys) → Suffices old xs
+pub room-front : (old : FourLists) (xs ys : List Numbered) → Suffices old (xs ++ ys) → Suffices old xs
 room-front old xs ys r =
     let a = length-append xs ys in
     let b = ap length (each_append (λ x. items_of x.entries) xs ys) in

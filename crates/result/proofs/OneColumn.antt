@@ -20,25 +20,25 @@ use Rattle.links.specs.Ground.{Ground, Tidy}
 use Rattle.links.specs.Row.{span, first_live}
 use Rattle.links.specs.Shown.{Ready}
 use Rattle.links.specs.declared.nodes.Nodes.{Nodes}
-use Rattle.links.specs.Nodes.{item_in}
+use Rattle.links.specs.Nodes.{column_in}
 use Rattle.links.specs.Lead.{Led, Leads}
 use Rattle.links.proofs.Endings.{no-item, some-item}
 use Rattle.links.proofs.Plans.{header-before}
 use Rattle.links.proofs.Spans.{In-span, keep_join}
 use Rattle.links.proofs.Descending.{Stand, on-entry, reach, reach-past, reach-at, left, stand-header, stand-in, stand-column, stand-next, step-gap, step-far, step_less}
 use Rattle.result.specs.Left.{lead_at, option_from, column_to, column_options}
-use Rattle.result.specs.Writing.{Out, Written, Suffices}
+use Rattle.result.specs.Writing.{FourLists, Written, Suffices}
 use Rattle.result.specs.Reading.{OptionAt, ColumnAt}
 use Rattle.result.proofs.Spanning.{keep-end, keep-over, keep_same}
 use Rattle.result.proofs.Lists.{room-front}
 
 -- The walk is at r: the options met before r are written behind the options xs.
-pub record Place (g : Ground) (old lists : Out) (xs : List Numbered) (c option entry r : ℕ) : Type 0 where
+pub record AtEntry (g : Ground) (old lists : FourLists) (xs : List Numbered) (c option entry r : ℕ) : Type 0 where
   pub stand : Stand g c r
   pub written : Written old lists (xs ++ column_to g c (reach g.plan r)) option entry
 
 -- other lists of options, the same ones
-written_same : (old lists : Out) {xs ys : List Numbered} (option entry : ℕ) → xs ≡ ys → Written old lists xs option entry → Written old lists ys option entry
+written_same : (old lists : FourLists) {xs ys : List Numbered} (option entry : ℕ) → xs ≡ ys → Written old lists xs option entry → Written old lists ys option entry
 written_same old lists option entry e w = subst (λ (l : List Numbered). Written old lists l option entry) e w
 
 module _ (g : Ground) (t : Tidy g) (c : ℕ) (hd : Header g.plan c) where
@@ -81,7 +81,7 @@ module _ (g : Ground) (t : Tidy g) (c : ℕ) (hd : Header g.plan c) where
         ∙ map-append (option_from g) (keep (lead_at g c) (span (start g.plan) (x + 1))) (keep (lead_at g c) (span (x + 1) g.plan.N))
 
 -- The same, of lists that are the ground's.
-module _ {g : Ground} {old lists : Out} {xs : List Numbered} {nodes : Nodes} {tints : List ℕ} {c option entry : ℕ} (a : ColumnAt g old lists xs nodes tints c option entry) where
+module _ {g : Ground} {old lists : FourLists} {xs : List Numbered} {nodes : Nodes} {tints : List ℕ} {c option entry : ℕ} (a : ColumnAt g old lists xs nodes tints c option entry) where
   ready : Ready g
   ready = a.laid.standing.ready
 
@@ -97,13 +97,13 @@ module _ {g : Ground} {old lists : Out} {xs : List Numbered} {nodes : Nodes} {ti
   downs : g.plan.N ≤ length nodes.down.now
   downs = rw a.laid.down-are ready.tidy.ring.downs
 
-  pub column-begins : Place g old lists xs c option entry (at nodes.down.now c)
-  column-begins = subst (λ (r : ℕ). Place g old lists xs c option entry r) (sym (below c)) (record {
+  pub column-begins : AtEntry g old lists xs c option entry (at nodes.down.now c)
+  column-begins = subst (λ (r : ℕ). AtEntry g old lists xs c option entry r) (sym (below c)) (record {
     stand = stand-next g ready.tidy c a.column c top;
     written = written_same old lists option entry (sym (ap (λ (l : List Numbered). xs ++ l) (column-none g ready.tidy c a.column top) ∙ append-nil xs)) a.written;
   })
 
-  module _ {lists' : Out} {o e r : ℕ} (b : Place g old lists' xs c o e r) where
+  module _ {lists' : FourLists} {o e r : ℕ} (b : AtEntry g old lists' xs c o e r) where
     pub place_in : r < length nodes.down.now
     place_in = omega (arith, downs, stand-in g ready.tidy c a.column r b.stand)
 
@@ -140,8 +140,8 @@ module _ {g : Ground} {old lists : Out} {xs : List Numbered} {nodes : Nodes} {ti
         not_first i = sym f.first ∙ ne_eqb (item_of (head g.heads z)) 0 (λ q. i (ap (λ (l : List ℤ). item_of (head l z)) a.laid.standing.heads-are ∙ q))
 
         -- it is not: on to the next
-        pub place-over : is_some (item_in (head nodes.heads.now z)) ≡ true → Place g old lists' xs c o e (at nodes.down.now r)
-        place-over i = subst (λ (k : ℕ). Place g old lists' xs c o e k) (sym (below r)) (record {
+        pub place-over : is_some (column_in (head nodes.heads.now z)) ≡ true → AtEntry g old lists' xs c o e (at nodes.down.now r)
+        place-over i = subst (λ (k : ℕ). AtEntry g old lists' xs c o e k) (sym (below r)) (record {
           stand = stand-next g ready.tidy c a.column r b.stand;
           written =
               written_same old lists' o e
@@ -151,7 +151,7 @@ module _ {g : Ground} {old lists : Out} {xs : List Numbered} {nodes : Nodes} {ti
         })
 
         -- it is: its option is written
-        module _ (i : is_some (item_in (head nodes.heads.now z)) ≡ false) where
+        module _ (i : is_some (column_in (head nodes.heads.now z)) ≡ false) where
           one_more : (xs ++ column_to g c (reach g.plan r)) ++ (option_from g r ∷ []) ≡ xs ++ column_to g c (r + 1)
           one_more =
               ap (λ (k : ℕ). (xs ++ column_to g c k) ++ (option_from g r ∷ [])) here
@@ -174,8 +174,8 @@ module _ {g : Ground} {old lists : Out} {xs : List Numbered} {nodes : Nodes} {ti
             written = b.written;
           }
 
-          pub place-one : (lists'' : Out) (o' e' : ℕ) → Written old lists'' ((xs ++ column_to g c (reach g.plan r)) ++ (option_from g r ∷ [])) o' e' → Place g old lists'' xs c o' e' (at nodes.down.now r)
-          place-one lists'' o' e' w = subst (λ (k : ℕ). Place g old lists'' xs c o' e' k) (sym (below r)) (record {
+          pub place-one : (lists'' : FourLists) (o' e' : ℕ) → Written old lists'' ((xs ++ column_to g c (reach g.plan r)) ++ (option_from g r ∷ [])) o' e' → AtEntry g old lists'' xs c o' e' (at nodes.down.now r)
+          place-one lists'' o' e' w = subst (λ (k : ℕ). AtEntry g old lists'' xs c o' e' k) (sym (below r)) (record {
             stand = stand-next g ready.tidy c a.column r b.stand;
             written = written_same old lists'' o' e' (one_more ∙ ap (λ (l : List Numbered). xs ++ l) (sym (column-next g ready.tidy c a.column r b.stand behind))) w;
           })

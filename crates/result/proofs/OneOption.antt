@@ -9,6 +9,7 @@ use borrow.Author.Tests.{lt-ltb, le-ltb}
 use lib.ListN.{length, set, length-append, length-map}
 use lib.IntN.{ℤ, pos}
 use Rattle.std.proofs.Common.{Some, None}
+use Rattle.rules.specs.Bounds.{node_bound, word_bound}
 use Rattle.rules.specs.Lists.{keep}
 use Rattle.rules.specs.Problem.{Entry}
 use Rattle.rules.specs.State.{items_of}
@@ -19,13 +20,13 @@ use Rattle.links.specs.Plan.{hi, EntryOf, Planned}
 use Rattle.links.specs.Ground.{Ground, Short, Edge}
 use Rattle.links.specs.Row.{span, full}
 use Rattle.links.specs.Shown.{entry_at}
-use Rattle.links.specs.Nodes.{item_in, option_in}
+use Rattle.links.specs.Nodes.{column_in, option_in}
 use Rattle.links.proofs.Stores.{same?}
 use Rattle.links.proofs.Endings.{option_none, option_some, item_none, item_some}
 use Rattle.links.proofs.Plans.{entry_row, row-till, row-mate, header-before}
 use Rattle.result.specs.Filled.{Filled}
 use Rattle.result.specs.Left.{entries_to, option_from}
-use Rattle.result.specs.Writing.{Out, out, items_in, colours_in, Written}
+use Rattle.result.specs.Writing.{FourLists, out, items_in, colours_in, Written}
 use Rattle.result.specs.Reading.{OptionAt}
 use Rattle.result.proofs.Filling.{filled_more, filled-length, filled-same}
 use Rattle.result.proofs.Spanning.{keep-end, keep-over, keep-rises}
@@ -33,13 +34,13 @@ use Rattle.theorems.proofs.Answers.Joining.{length-ends}
 use Rattle.result.proofs.Lists.{items-one, colours-one, numbers-one, ends-one, length-numbers}
 
 -- The walk from r is at q: the live entries before q are written behind the options xs.
-pub record Reading (g : Ground) (old : Out) (xs : List Numbered) (r : ℕ) (items colours : List ℕ) (entry q : ℕ) : Type 0 where
+pub record Reading (g : Ground) (old : FourLists) (xs : List Numbered) (r : ℕ) (items colours : List ℕ) (entry q : ℕ) : Type 0 where
   pub from : r ≤ q
   pub till : q ≤ hi g.plan r
   pub items-in : Filled old.items (items_in xs ++ items_of (entries_to g r q)) items entry
   pub colours-in : Filled old.colours (colours_in xs ++ colours_of (entries_to g r q)) colours entry
 
-module _ {g : Ground} {old lists : Out} {xs : List Numbered} {heads : List ℤ} {tints : List ℕ} {r option entry : ℕ} (d : OptionAt g old lists xs heads tints r option entry) where
+module _ {g : Ground} {old lists : FourLists} {xs : List Numbered} {heads : List ℤ} {tints : List ℕ} {r option entry : ℕ} (d : OptionAt g old lists xs heads tints r option entry) where
   W : Planned g.plan
   W = d.tidy.planned
 
@@ -83,7 +84,7 @@ module _ {g : Ground} {old lists : Out} {xs : List Numbered} {heads : List ℤ} 
           n s = true≢false (sym (ap below_zero (ap (head g.heads) s ∙ edge.number)) ∙ sym (ap (λ (l : List ℤ). below_zero (head l q)) d.heads-are) ∙ z)
 
       -- a shortened entry
-      pub reading-over : None ≡ item_in (head heads q) → Reading g old xs r items colours e (q + 1)
+      pub reading-over : None ≡ column_in (head heads q) → Reading g old xs r items colours e (q + 1)
       reading-over i = record {
         from = omega (arith, b.from);
         till = omega (arith, reading-inner);
@@ -94,7 +95,7 @@ module _ {g : Ground} {old lists : Out} {xs : List Numbered} {heads : List ℤ} 
           same : keep (full g.heads) (span r (q + 1)) ≡ keep (full g.heads) (span r q)
           same = keep-over (full g.heads) r q b.from (le-ltb 0 (item_of (head g.heads q)) (omega (arith, ap (λ (l : List ℤ). item_of (head l q)) (sym d.heads-are), item_none (head heads q) i)))
 
-      module _ (k : ℕ) (s : Some k ≡ item_in (head heads q)) where
+      module _ (k : ℕ) (s : Some k ≡ column_in (head heads q)) where
         item-is : item_of (head heads q) ≡ k
         item-is = (item_some (head heads q) k s).0
 
@@ -140,7 +141,7 @@ module _ {g : Ground} {old lists : Out} {xs : List Numbered} {heads : List ℤ} 
             let l = filled-length old.colours (colours_in xs ++ colours_of (entries_to g r q)) colours e b.colours-in (omega (arith, more, d.room.colours, b.items-in.at-is, b.colours-in.at-is)) in
             omega (arith, more, d.room.colours, b.items-in.at-is, l)
 
-        pub reading_small : k - 1 < 1048576
+        pub reading_small : k - 1 < node_bound
         reading_small = omega (arith, column, header-before g.plan W (g.plan.col q) (W.entry q node), W.room, W.small)
 
         pub reading-one : Reading g old xs r (set items e (k - 1)) (set colours e (at tints q)) (e + 1) (q + 1)
@@ -174,7 +175,7 @@ module _ {g : Ground} {old lists : Out} {xs : List Numbered} {heads : List ℤ} 
           ∙ ap (λ (k : ℕ). length (items_in xs ++ items_of (entries_to g r k))) here
           ∙ ap length (sym (items-one xs (option_from g r)))
 
-      pub reading-fits : e < 4294967296
+      pub reading-fits : e < word_bound
       unfolding all
       reading-fits = omega (arith, count-is, d.room.small)
 

@@ -1,13 +1,13 @@
 -- A writer's lists, and those of a result that it writes. And that a function leaves them the same ones, whatever it writes in them. Assumes nothing.
 use Rattle.std.specs.Prelude.{ℕ, ◌≡◌, length}
 use Rattle.rules.specs.declared.lent.Results.{Results}
-use Rattle.result.specs.Writing.{Out, out}
+use Rattle.result.specs.Writing.{FourLists, out}
 use Rattle.result.specs.declared.writer.Writer.{Writer}
 
-abbrev pub lists_of : Writer → Out
+abbrev pub lists_of : Writer → FourLists
 lists_of w = out w.ends.now w.numbers.now w.items.now w.colours.now
 
-abbrev pub lists_in : Results ℕ → Out
+abbrev pub lists_in : Results ℕ → FourLists
 lists_in r = out r.ends.now r.numbers.now r.items.now r.colours.now
 
 -- b is what a became: the same four lists, as long as they were

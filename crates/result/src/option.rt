@@ -3,7 +3,7 @@ ghost use Rattle.std.specs.Prelude.{List, [], ◌∷◌, ◌++◌};
 ghost use Rattle.rules.specs.Result.{Numbered};
 ghost use Rattle.links.specs.Ground.{Ground};
 ghost use Rattle.result.specs.Left.{option_from};
-ghost use Rattle.result.specs.Writing.{Out, Written};
+ghost use Rattle.result.specs.Writing.{FourLists, Written};
 ghost use Rattle.result.specs.Writer.{SameWriter, lists_of};
 ghost use Rattle.result.specs.Reading.{OptionAt};
 
@@ -14,10 +14,10 @@ use links::nodes::Nodes;
 // its number, which the boundary holds. Shortened entries are passed over. With r its first live entry that is all of the option: the Rust goes
 // back to the boundary before r first.
 pub fn get_option(nodes: &Nodes, tints: &[u32], r: usize, out: &mut Writer)
-    requires { (g : Ground) × (old : Out) × (xs : List Numbered)
+    requires { (g : Ground) × (old : FourLists) × (xs : List Numbered)
         × OptionAt g old (lists_of out.old) xs nodes.now.heads.now tints.now r out.old.option out.old.entry }
     ensures lists { SameWriter out.old out.new }
-    ensures option { (g : Ground) (old : Out) (xs : List Numbered)
+    ensures option { (g : Ground) (old : FourLists) (xs : List Numbered)
         → OptionAt g old (lists_of out.old) xs nodes.now.heads.now tints.now r out.old.option out.old.entry
         → Written old (lists_of out.new) (xs ++ (option_from g r ∷ [])) out.new.option out.new.entry }
 {
@@ -27,9 +27,9 @@ pub fn get_option(nodes: &Nodes, tints: &[u32], r: usize, out: &mut Writer)
         if let Some(k) = nodes.option(q) {
             break k;
         }
-        let item = nodes.item(q);
-        if let Some(i) = item {
-            out.put((i - 1) as u32, tints[q]);
+        let column = nodes.column(q);
+        if let Some(c) = column {
+            out.put((c - 1) as u32, tints[q]);
         }
         q += 1;
     };

@@ -1,5 +1,6 @@
 // Writing the options that are left, one behind another.
 ghost use Rattle.std.specs.Prelude.{◌≡◌, ◌+◌, ◌<◌, length, set};
+ghost use Rattle.rules.specs.Bounds.{word_bound};
 ghost use Rattle.result.specs.Writer.{SameWriter};
 
 // The lists of a result that hold options: of each its end and its number, of their entries the items and the colours. All are written from the front.
@@ -33,7 +34,7 @@ impl<'a> Writer<'a> {
 
     // Ends the option whose entries are written, with its number.
     pub fn end(&mut self, number: u32)
-        requires { (self.old.option < length self.old.ends.now) × (self.old.option < length self.old.numbers.now) × (self.old.entry < 4294967296) }
+        requires { (self.old.option < length self.old.ends.now) × (self.old.option < length self.old.numbers.now) × (self.old.entry < word_bound) }
         ensures lists { SameWriter self.old self.new }
         ensures ends { self.new.ends.now ≡ set self.old.ends.now self.old.option self.old.entry }
         ensures numbers { self.new.numbers.now ≡ set self.old.numbers.now self.old.option number }

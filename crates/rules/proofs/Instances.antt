@@ -9,7 +9,8 @@ use mathlib.Core.List.{[], ◌∷◌}
 use mathlib.Core.Logic.{◌≢◌}
 use mathlib.Core.Option.{some}
 use Rattle.rules.specs.Problem.{Problem}
-use Rattle.rules.specs.Checks.{Refusal, Handed}
+use Rattle.rules.specs.Rooms.{Handed}
+use Rattle.rules.specs.Checks.{Refusal}
 use Rattle.rules.specs.Rounds.{Finding}
 use Rattle.rules.specs.Result.{renamed}
 use Rattle.rules.specs.Paper.{said_refused}

@@ -4,7 +4,8 @@
 use Rattle.std.specs.Prelude.{ℕ, ◌≡◌, false, List, [], ◌∷◌, map, get_or, replicate, pos}
 use Rattle.std.proofs.Math.Option.{Option, none, some}
 use Rattle.rules.specs.Problem.{Figures}
-use Rattle.rules.specs.Checks.{Refusal, Handed, refusal_of}
+use Rattle.rules.specs.Rooms.{Handed}
+use Rattle.rules.specs.Checks.{Refusal, refusal_of}
 use Rattle.rules.specs.Renumber.{Renumbered, compact_outcome, crate_outcome}
 
 abbrev pub small_figures : Figures

@@ -1,9 +1,10 @@
 -- Checks 10 to 22 with their places, in their order, over any lists of numbers and any figures. Document 01, "What comes
 -- back". Assumes nothing.
-use Rattle.std.specs.Prelude.{ℕ, suc, ◌+◌, ◌-◌, Bool, true, false, not, ◌&&◌, ◌||◌, cond, List, [], ◌∷◌, ◌++◌, ltb, eqb, length, ℤ}
+use Rattle.std.specs.Prelude.{ℕ, suc, ◌+◌, ◌-◌, Bool, true, false, not, ◌&&◌, ◌||◌, cond, List, [], ◌∷◌, ◌++◌, ltb, eqb, length}
 use Rattle.std.proofs.Math.Option.{Option, none, some}
 use Rattle.rules.specs.Lists.{or_else, first_of, mem}
 use Rattle.rules.specs.Problem.{Entry, Figures, entries_of, cut}
+use Rattle.rules.specs.Rooms.{Room, Results, Handed}
 
 pub record Refusal : Type 0 where
   pub number : ℕ
@@ -13,32 +14,6 @@ pub record Refusal : Type 0 where
 abbrev pub refuse : ℕ → ℕ → Bool → Option Refusal
 refuse number place true = some (record { number = number; place = place })
 refuse number place false = none
-
--- The working lists and the result lists, as lent.
-pub record Room : Type 0 where
-  pub heads : List ℤ
-  pub up : List ℕ
-  pub down : List ℕ
-  pub tints : List ℕ
-  pub marks : List ℕ
-
-pub record Results : Type 0 where
-  pub kept : List ℕ
-  pub ends : List ℕ
-  pub numbers : List ℕ
-  pub items : List ℕ
-  pub colours : List ℕ
-
--- All that a call is handed: the numbers, the lists, and the room.
-pub record Handed : Type 0 where
-  pub np : ℕ
-  pub ns : ℕ
-  pub cap : ℕ
-  pub items : List ℕ
-  pub colours : List ℕ
-  pub ends : List ℕ
-  pub room : Room
-  pub results : Results
 
 -- 16: the first option whose end is below the one before it (0 before the first) or above E; else, if the last end isn't E,
 -- the last option. k is the number of the first option of the list.

@@ -1,7 +1,7 @@
 -- The program's lists as those of document 01: what is handed in, the room, and the result. And that a call leaves what it is lent the same
 -- lists, whatever it writes in them. Assumes nothing.
 use Rattle.std.specs.Prelude.{ℕ, ◌≡◌, length}
-use Rattle.rules.specs.Checks.{Room as PaperRoom, Results as PaperResults, Handed}
+use Rattle.rules.specs.Rooms.{Room as PaperRoom, Results as PaperResults, Handed}
 use Rattle.rules.specs.declared.lent.Given.{Given}
 use Rattle.rules.specs.declared.lent.Room.{Room}
 use Rattle.rules.specs.declared.lent.Results.{Results}

@@ -1,5 +1,7 @@
+pub mod Bounds
 pub mod Lists
 pub mod Problem
+pub mod Rooms
 pub mod Checks
 pub mod State
 pub mod Redundant

@@ -4,7 +4,8 @@ use Rattle.std.specs.Prelude.{ℕ, ◌+◌, Bool, false, map, length, pos}
 use Rattle.std.proofs.Math.Option.{Option, none, some}
 use Rattle.rules.specs.Lists.{written}
 use Rattle.rules.specs.Problem.{Figures, figures, problem_of}
-use Rattle.rules.specs.Checks.{Refusal, Room, Results, Handed, refusal_of}
+use Rattle.rules.specs.Rooms.{Room, Results, Handed}
+use Rattle.rules.specs.Checks.{Refusal, refusal_of}
 use Rattle.rules.specs.State.{State}
 use Rattle.rules.specs.Rounds.{Finding, reduced, infeasible, reduce}
 use Rattle.rules.specs.Result.{kept_items, kept_options, primaries_of, secondaries_of, results_of}

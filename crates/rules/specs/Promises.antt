@@ -5,7 +5,8 @@ use mathlib.Core.List.{List, [], ◌∷◌, map, Memᴰ as In}
 use Rattle.std.proofs.Math.Option.{none, some}
 use Rattle.rules.specs.Lists.{keep, each, up_to, mem}
 use Rattle.rules.specs.Problem.{Entry, Problem, Figures, problem_of}
-use Rattle.rules.specs.Checks.{Handed, refusal_of}
+use Rattle.rules.specs.Rooms.{Handed}
+use Rattle.rules.specs.Checks.{refusal_of}
 use Rattle.rules.specs.State.{State, went, emptied, is_uncoloured, holds_primary, begins, in_live, items_of}
 use Rattle.rules.specs.Redundant.{redundant_for}
 use Rattle.rules.specs.Blocked.{blocked}

@@ -3,7 +3,7 @@
 use Rattle.std.specs.Prelude.{ℕ, suc, ◌+◌, not, List, [], ◌∷◌, map, ltb, length}
 use Rattle.rules.specs.Lists.{keep, count, each, up_to, place}
 use Rattle.rules.specs.Problem.{Entry, Problem}
-use Rattle.rules.specs.Checks.{Results}
+use Rattle.rules.specs.Rooms.{Results}
 use Rattle.rules.specs.State.{State, is, begins, in_live, items_of}
 
 -- kept items (those in a live option) upward, primaries first

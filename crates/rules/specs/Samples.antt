@@ -4,7 +4,7 @@
 use Rattle.std.specs.Prelude.{ℕ, suc, ◌+◌, ◌-◌, ◌≡◌, List, [], ◌∷◌, ◌++◌, map, length, replicate, pos}
 use Rattle.rules.specs.Lists.{each}
 use Rattle.rules.specs.Problem.{Entry}
-use Rattle.rules.specs.Checks.{Room, Results, Handed}
+use Rattle.rules.specs.Rooms.{Room, Results, Handed}
 use Rattle.rules.specs.State.{items_of}
 use Rattle.rules.specs.Result.{colours_of, primaries_of}
 use Rattle.rules.specs.Renumber.{compact_outcome, crate_outcome}

@@ -4,7 +4,8 @@ use Rattle.std.specs.Prelude.{ℕ, suc, ◌+◌, ◌≡◌, true, false, not, ma
 use Rattle.std.proofs.Math.Option.{none}
 use Rattle.rules.specs.Lists.{up_to}
 use Rattle.rules.specs.Problem.{Figures, problem_of}
-use Rattle.rules.specs.Checks.{Room, Results, Handed, short_room, short_results, refusal_of}
+use Rattle.rules.specs.Rooms.{Room, Results, Handed}
+use Rattle.rules.specs.Checks.{short_room, short_results, refusal_of}
 use Rattle.rules.specs.State.{State}
 use Rattle.rules.specs.Rounds.{reduced, reduce}
 use Rattle.rules.specs.Result.{kept_items, primaries_of, secondaries_of, results_of}

@@ -8,7 +8,8 @@ use mathlib.Core.Option.{none, some}
 use lib.ListN.{length}
 use Rattle.rules.specs.Lists.{each}
 use Rattle.rules.specs.Problem.{Entry, Problem, Figures, figures, entries_of, problem_of}
-use Rattle.rules.specs.Checks.{Refusal, Handed, refusal_of}
+use Rattle.rules.specs.Rooms.{Handed}
+use Rattle.rules.specs.Checks.{Refusal, refusal_of}
 use Rattle.rules.specs.State.{State}
 use Rattle.rules.specs.Rounds.{Finding, reduced, infeasible, reduce}
 use Rattle.rules.specs.Result.{kept_items, primaries_of, secondaries_of, kept_options, results_of}

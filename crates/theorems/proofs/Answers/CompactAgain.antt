@@ -7,7 +7,7 @@ use mathlib.Core.List.{List, map}
 use lib.Dec.{ltb}
 use lib.ListN.{length}
 use Rattle.rules.specs.Lists.{each, up_to, place}
-use Rattle.rules.specs.Checks.{Results}
+use Rattle.rules.specs.Rooms.{Results}
 use Rattle.rules.specs.State.{State, items_of}
 use Rattle.rules.specs.Result.{kept_items, primaries_of, secondaries_of, Numbered, numbered, kept_options, ends_from, numbers_of, colours_of, results_of, renamed, compact_of}
 use Rattle.rules.specs.Outcome.{said_of}

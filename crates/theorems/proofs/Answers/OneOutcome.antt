@@ -6,7 +6,8 @@ use mathlib.Core.Bool.{Bool, false}
 use mathlib.Core.Option.{none, some}
 use Rattle.rules.specs.declared.answer.Answer.{Answer}
 use Rattle.rules.specs.Problem.{Figures, figures, problem_of}
-use Rattle.rules.specs.Checks.{Refusal, Handed, refusal_of}
+use Rattle.rules.specs.Rooms.{Handed}
+use Rattle.rules.specs.Checks.{Refusal, refusal_of}
 use Rattle.rules.specs.State.{State}
 use Rattle.rules.specs.Rounds.{Finding, reduced, infeasible, reduce}
 use Rattle.rules.specs.Result.{results_of}

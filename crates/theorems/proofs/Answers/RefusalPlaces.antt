@@ -9,7 +9,8 @@ use lib.Dec.{T, ltb, eqb, eqb→eq, nltb→le, T_not}
 use lib.ListN.{length, length-append}
 use Rattle.rules.specs.Lists.{or_else, each, mem}
 use Rattle.rules.specs.Problem.{Entry, Figures, entries_of, cut}
-use Rattle.rules.specs.Checks.{Refusal, Handed, refuse, refuse_at, bad_end, last_end, last_missed, check16, short_room, short_results, check_entry, check_option, check_options, refusal_of}
+use Rattle.rules.specs.Rooms.{Handed}
+use Rattle.rules.specs.Checks.{Refusal, refuse, refuse_at, bad_end, last_end, last_missed, check16, short_room, short_results, check_entry, check_option, check_options, refusal_of}
 use Rattle.theorems.proofs.Words.Tests.{T-nor, neqb→ne, T-stable}
 use Rattle.theorems.proofs.Checks.Cutting.{length-entries_of, cut-whole}
 use Rattle.theorems.proofs.Checks.Accept.{refuse-none}

@@ -10,7 +10,8 @@ use mathlib.Core.Option.{none}
 use lib.ListN.{length}
 use Rattle.rules.specs.Lists.{each}
 use Rattle.rules.specs.Problem.{Entry, Problem, Figures, entries_of, problem_of}
-use Rattle.rules.specs.Checks.{Results, Handed, refusal_of}
+use Rattle.rules.specs.Rooms.{Results, Handed}
+use Rattle.rules.specs.Checks.{refusal_of}
 use Rattle.rules.specs.State.{State}
 use Rattle.rules.specs.Rounds.{Finding, reduced, infeasible, reduce}
 use Rattle.rules.specs.Result.{Numbered, kept_options, results_of}

@@ -6,7 +6,8 @@ use mathlib.Core.Bool.{true, false}
 use mathlib.Core.Option.{none}
 use lib.ListN.{length}
 use Rattle.rules.specs.Problem.{Problem, Figures, problem_of}
-use Rattle.rules.specs.Checks.{Room, Results, Handed, check16, refusal_of}
+use Rattle.rules.specs.Rooms.{Room, Results, Handed}
+use Rattle.rules.specs.Checks.{check16, refusal_of}
 use Rattle.rules.specs.State.{State}
 use Rattle.rules.specs.Rounds.{Finding, reduced, reduce}
 use Rattle.rules.specs.Result.{compact_of}

@@ -5,7 +5,8 @@ use mathlib.Core.List.{List}
 use mathlib.Core.Option.{none}
 use lib.ListN.{length}
 use Rattle.rules.specs.Problem.{Entry, Figures, entries_of, problem_of}
-use Rattle.rules.specs.Checks.{Handed, check16, refusal_of}
+use Rattle.rules.specs.Rooms.{Handed}
+use Rattle.rules.specs.Checks.{check16, refusal_of}
 use Rattle.rules.specs.Promises.{Accepted}
 use Rattle.rules.specs.SecondRun.{Roomy}
 use Rattle.theorems.proofs.Checks.Cutting.{length-entries_of, length_cut, cut-whole}

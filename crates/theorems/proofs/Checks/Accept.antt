@@ -16,7 +16,8 @@ use mir.Facts.{T_not-not}
 use borrow.Author.Tests.{lt-ltb, le-ltb, eq-eqb, ne_eqb}
 use Rattle.rules.specs.Lists.{mem}
 use Rattle.rules.specs.Problem.{Entry, Problem, Figures, entries_of, cut, problem_of}
-use Rattle.rules.specs.Checks.{Handed, refuse, check16, short_room, short_results, check_entry, check_option, check_options, refusal_of}
+use Rattle.rules.specs.Rooms.{Handed}
+use Rattle.rules.specs.Checks.{refuse, check16, short_room, short_results, check_entry, check_option, check_options, refusal_of}
 use Rattle.rules.specs.State.{items_of}
 use Rattle.rules.specs.Promises.{distinct, AcceptedEntry, Accepted, ChecksAccept}
 use Rattle.theorems.proofs.Words.Tests.{T_false, T_and, T-nor, T-nand, neqb→ne, ne→neqb, nor-T}
@@ -131,7 +132,7 @@ accepts f a A = accepts-from f a A 0
 -- The whole table
 
 -- What the checks leave of what is handed in.
-pub record Passed (f : Figures) (h : Handed) : Type 0 where
+pub record ChecksPassed (f : Figures) (h : Handed) : Type 0 where
   pub some-primary : 0 < h.np
   pub items : h.np + h.ns ≤ f.items
   pub some-option : 0 < length h.ends
@@ -147,7 +148,7 @@ pub record Passed (f : Figures) (h : Handed) : Type 0 where
 above_zero : (n : ℕ) → T (not (eqb n 0)) → 0 < n
 above_zero n t = let ne = neqb→ne n 0 t in omega arith
 
-pub passed : (f : Figures) (ragged : Bool) (h : Handed) → refusal_of f ragged h ≡ none → Passed f h
+pub passed : (f : Figures) (ragged : Bool) (h : Handed) → refusal_of f ragged h ≡ none → ChecksPassed f h
 unfolding refusal_of
 passed f ragged h e =
     let n = h.np + h.ns in
@@ -178,7 +179,7 @@ passed f ragged h e =
     }
 
 -- and nothing else is asked for
-pub not-refused : (f : Figures) (h : Handed) → Passed f h → refusal_of f false h ≡ none
+pub not-refused : (f : Figures) (h : Handed) → ChecksPassed f h → refusal_of f false h ≡ none
 unfolding refusal_of
 not-refused f h P =
     let some-primary = P.some-primary in
@@ -196,7 +197,7 @@ not-refused f h P =
       P.checked,
     )
 
-pub passed-accepted : (f : Figures) (h : Handed) → Passed f h → Accepted f (problem_of h.np h.ns h.items h.colours h.ends)
+pub passed-accepted : (f : Figures) (h : Handed) → ChecksPassed f h → Accepted f (problem_of h.np h.ns h.items h.colours h.ends)
 unfolding problem_of
 passed-accepted f h P =
     record {

@@ -17,12 +17,12 @@ returns-then-tints-r-ne0-clause-found c = λ g i z e t. (z, e, try-coloured t (o
 pub lead-q-requires : goal.lead-q-requires
 lead-q-requires c = let q = c.requires in (hiding q.0 q.1, try-led q.4)
 
-pub item-requires : goal.item-requires
-item-requires c = let q = c.requires in try-item q.4 (c.lead-q.ensures (hiding q.0 q.1) (try-led q.4))
+pub column-requires : goal.column-requires
+column-requires c = let q = c.requires in try-item q.4 (c.lead-q.ensures (hiding q.0 q.1) (try-led q.4))
 
 pub returns-then-is_some-clause-found : goal.returns-then-is_some-clause-found
 returns-then-is_some-clause-found c =
-    λ g i z e t. (z, e, try-later t (c.lead-q.ensures (hiding g i) (try-led t)) (some-item _ (ap is_some (sym c.item.ensures) ∙ sym c.if-is_some.ensures)))
+    λ g i z e t. (z, e, try-later t (c.lead-q.ensures (hiding g i) (try-led t)) (some-item _ (ap is_some (sym c.column.ensures) ∙ sym c.if-is_some.ensures)))
 
 pub mark_items-requires : goal.mark_items-requires
 mark_items-requires c =

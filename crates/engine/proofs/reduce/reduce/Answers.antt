@@ -2,56 +2,56 @@
 use Rattle.std.proofs.Common.{◌≡◌, ◌+◌, rules, arith, refl, ◌∙◌, ap}
 use Rattle.rules.specs.Lent.{room_in}
 use Rattle.rules.specs.Outcome.{cleared}
-use Rattle.engine.specs.Call.{room_lists}
-use Rattle.engine.proofs.Clearing.{cleared-alike}
+use Rattle.rules.specs.Rooms.{room_lists}
+use Rattle.room.proofs.Clearing.{cleared-alike}
 use Rattle.engine.proofs.Concluding.{takes, call-buildable, stop-small, call-infeasible, call-reported, call-reduced}
 use Rattle.engine.proofs.reduce.reduce.Goals as goal
 use Rattle.engine.proofs.reduce.reduce.Goals.{After-clear_room, in-Ok, in-Err}
 
--- whatever the answer, the room has the lists that the search left, and is cleared
+-- whatever the answer, the room has the lists that the run left, and is cleared
 left : (c : After-clear_room)
-    → room_in c.match-search.room ≡ room_lists c.search.new.nodes.heads.now c.search.new.nodes.up.now c.search.new.nodes.down.now c.search.new.tints c.search.new.marks
-left c = elim c.match-search.branch [
+    → room_in c.match-run.room ≡ room_lists c.run.new.nodes.heads.now c.run.new.nodes.up.now c.run.new.nodes.down.now c.run.new.tints c.run.new.marks
+left c = elim c.match-run.branch [
   | in-Ok w ↦ search rules
   | in-Err w ↦ search rules
 ]
 
 zeros : (c : After-clear_room) → room_in c.clear_room.new.room ≡ cleared (room_in c.args.room.now)
 zeros c =
-    let n = c.search.ensures.nodes in
-    c.clear_room.ensures.cleared ∙ ap cleared (left c) ∙ cleared-alike _ _ _ _ _ _ _ _ _ _ n.heads-long n.up-long n.down-long c.search.auto.tints c.search.auto.marks
+    let n = c.run.ensures.nodes in
+    c.clear_room.ensures.cleared ∙ ap cleared (left c) ∙ cleared-alike _ _ _ _ _ _ _ _ _ _ n.heads-long n.up-long n.down-long c.run.auto.tints c.run.auto.marks
 
-pub search-requires : goal.search-requires
-search-requires c = let e = takes _ c.requires in (_, _, call-buildable e)
+pub run-requires : goal.run-requires
+run-requires c = let e = takes _ c.requires in (_, _, call-buildable e)
 
 pub report-answer-requires : goal.report-answer-requires
 report-answer-requires c =
     let e = takes _ c.requires in
-    let n = c.search.ensures.nodes in
-    let o = (rw c.in-Ok.is at (c.search.ensures.found _ _ (call-buildable e))).goes in
-    (o.2.ground, call-reported e c.search.new.nodes n.np n.n o.1 o.2)
+    let n = c.run.ensures.nodes in
+    let o = (rw c.in-Ok.is at (c.run.ensures.found _ _ (call-buildable e))).goes in
+    (o.2.ground, call-reported e c.run.new.nodes n.np n.n o.1 o.2)
 
 pub overflow_sub-stop : goal.overflow_sub-stop
 overflow_sub-stop c =
     let e = takes _ c.requires in
-    let o = (rw c.in-Err.is at (c.search.ensures.found _ _ (call-buildable e))).stops in
+    let o = (rw c.in-Err.is at (c.run.ensures.found _ _ (call-buildable e))).stops in
     omega (arith, o.0)
 
 pub overflow_cast-stop : goal.overflow_cast-stop
 overflow_cast-stop c =
     let e = takes _ c.requires in
-    let o = (rw c.in-Err.is at (c.search.ensures.found _ _ (call-buildable e))).stops in
+    let o = (rw c.in-Err.is at (c.run.ensures.found _ _ (call-buildable e))).stops in
     omega (arith, stop-small e o.1)
 
 pub returns-clause-outcome : goal.returns-clause-outcome
 returns-clause-outcome c =
     let e = takes _ c.requires in
-    let n = c.search.ensures.nodes in
-    let f = c.search.ensures.found _ _ (call-buildable e) in
-    elim c.match-search.branch [
+    let n = c.run.ensures.nodes in
+    let f = c.run.ensures.found _ _ (call-buildable e) in
+    elim c.match-run.branch [
       | in-Ok w ↦
           let o = (rw w.in-Ok.is at f).goes in
           rw (w.answer-is, w.results-is)
-          (call-reduced e c.search.new.nodes n.np n.n o.1 o.2 (w.report-answer.ensures.reported o.2.ground (call-reported e c.search.new.nodes n.np n.n o.1 o.2)) (zeros c))
+          (call-reduced e c.run.new.nodes n.np n.n o.1 o.2 (w.report-answer.ensures.reported o.2.ground (call-reported e c.run.new.nodes n.np n.n o.1 o.2)) (zeros c))
       | in-Err w ↦ rw (w.answer-is, w.results-is, w.from.ensures) (call-infeasible e (rw w.in-Err.is at f).stops.1 refl (zeros c))
     ]

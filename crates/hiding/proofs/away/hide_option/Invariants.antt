@@ -7,10 +7,10 @@ use Rattle.hiding.specs.Hiding.{Around}
 use Rattle.hiding.proofs.Round.{Round}
 use Rattle.hiding.proofs.away.hide_option.Given as goal
 
-abbrev pub invariant-loop-nn : goal.invariant-loop-nn
-invariant-loop-nn l =
+abbrev pub invariant-loop-qq : goal.invariant-loop-qq
+invariant-loop-qq l =
     SameNodes l.fn.nodes l.nodes
-    × ((g : Ground) → Around g l.rr → in_nodes (Holds g) l.fn.nodes → in_nodes (Round g l.rr l.fn.nodes.np l.fn.last) l.nodes l.nn l.stack)
+    × ((g : Ground) → Around g l.rr → in_nodes (Holds g) l.fn.nodes → in_nodes (Round g l.rr l.fn.nodes.np l.fn.last) l.nodes l.qq l.stack)
 
-abbrev pub decreases-loop-nn : goal.decreases-loop-nn
-decreases-loop-nn l = way (length l.fn.nodes.heads.now) l.rr l.nn
+abbrev pub decreases-loop-qq : goal.decreases-loop-qq
+decreases-loop-qq l = way (length l.fn.nodes.heads.now) l.rr l.qq

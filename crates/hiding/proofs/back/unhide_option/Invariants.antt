@@ -4,14 +4,14 @@ use Rattle.links.specs.Ground.{Ground}
 use Rattle.links.specs.Row.{others}
 use Rattle.links.specs.Way.{way}
 use Rattle.links.specs.Nodes.{in_nodes, SameNodes}
-use Rattle.hiding.specs.Away.{Away, Behind}
+use Rattle.hiding.specs.Away.{Away, Returning}
 use Rattle.hiding.proofs.RoundBack.{RoundBack}
 use Rattle.hiding.proofs.back.unhide_option.Given as goal
 
-abbrev pub invariant-loop-nn : goal.invariant-loop-nn
-invariant-loop-nn l =
+abbrev pub invariant-loop-qq : goal.invariant-loop-qq
+invariant-loop-qq l =
     SameNodes l.fn.nodes l.nodes
-    × ((g : Ground) (rest : List ℕ) → Behind g l.rr rest → in_nodes (Away g (others g l.rr ++ rest)) l.fn.nodes → in_nodes (RoundBack g l.rr rest) l.nodes l.nn)
+    × ((g : Ground) (rest : List ℕ) → Returning g l.rr rest → in_nodes (Away g (others g l.rr ++ rest)) l.fn.nodes → in_nodes (RoundBack g l.rr rest) l.nodes l.qq)
 
-abbrev pub decreases-loop-nn : goal.decreases-loop-nn
-decreases-loop-nn l = way (length l.fn.nodes.heads.now) l.rr l.nn
+abbrev pub decreases-loop-qq : goal.decreases-loop-qq
+decreases-loop-qq l = way (length l.fn.nodes.heads.now) l.rr l.qq

@@ -5,13 +5,13 @@ use Rattle.links.specs.Ground.{Ground}
 use Rattle.links.specs.Nodes.{SameNodes}
 use Rattle.showing.specs.Showing.{state_of}
 use Rattle.preproc.specs.Standing.{Standing, Figured}
-use Rattle.preproc.proofs.Rounding.{Going}
+use Rattle.preproc.proofs.Rounding.{RoundAt}
 use Rattle.preproc.proofs.rounds.round.Given as goal
 
-abbrev pub invariant-loop-i : goal.invariant-loop-i
-invariant-loop-i l =
+abbrev pub invariant-loop-item : goal.invariant-loop-item
+invariant-loop-item l =
     let n = l.fn.nodes in
     let m = l.nodes in
     SameNodes n m
     × ((g : Ground) → Standing g n.heads.now n.up.now n.down.now l.fn.tints l.fn.marks → Figured g.plan n.start n.np → n.n ≡ g.plan.n
-    → Going g.plan (round_of n.np n.n (state_of g)) n.np n.n l.i l.removed m.heads.now m.up.now m.down.now l.tints l.marks)
+    → RoundAt g.plan (round_of n.np n.n (state_of g)) n.np n.n l.item l.removed m.heads.now m.up.now m.down.now l.tints l.marks)

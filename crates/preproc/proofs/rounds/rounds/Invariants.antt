@@ -8,10 +8,10 @@ use Rattle.preproc.specs.Standing.{Standing, Figured}
 use Rattle.preproc.proofs.Rounding.{Turning}
 use Rattle.preproc.proofs.rounds.rounds.Given as goal
 
-abbrev pub invariant-loop-r : goal.invariant-loop-r
-invariant-loop-r l =
+abbrev pub invariant-loop-run : goal.invariant-loop-run
+invariant-loop-run l =
     let n = l.fn.nodes in
     let m = l.nodes in
     SameNodes n m
     × ((g : Ground) → Standing g n.heads.now n.up.now n.down.now l.fn.tints l.fn.marks → Figured g.plan n.start n.np → n.n ≡ g.plan.n
-    → Turning g.plan (rounds_of n.np n.n l.cap 0 (state_of g)) n.np n.n l.cap l.r m.heads.now m.up.now m.down.now l.tints l.marks)
+    → Turning g.plan (rounds_of n.np n.n l.cap 0 (state_of g)) n.np n.n l.cap l.run m.heads.now m.up.now m.down.now l.tints l.marks)

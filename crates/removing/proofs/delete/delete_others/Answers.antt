@@ -15,10 +15,10 @@ use Rattle.removing.proofs.delete.delete_others.Goals.{In-None, In-Some, After-t
 
 -- where the node at q has no item; and where it has one, which sits in its column, and what taking it out came to
 bare : (c : In-None) → item_of (head c.loop-q.nodes.heads.now c.loop-q.q) ≡ 0
-bare c = item_none _ (sym c.in-None.is ∙ c.item.ensures)
+bare c = item_none _ (sym c.in-None.is ∙ c.column.ensures)
 
 some : (c : In-Some) → item_of (head c.loop-q.nodes.heads.now c.loop-q.q) ≢ 0
-some c = omega (arith, item_some _ _ (sym c.in-Some.is ∙ c.item.ensures))
+some c = omega (arith, item_some _ _ (sym c.in-Some.is ∙ c.column.ensures))
 
 sits : (c : In-Some) (g : Ground) → in_nodes (Deleting g c.args.r) c.args.nodes.now → in_nodes (Sitting (taken g (walked g c.args.r c.loop-q.q)) c.loop-q.q) c.loop-q.nodes
 sits c g d = midway-sits d (c.loop-q.invariant.1 g d) c.loop-q-test.true (some c)

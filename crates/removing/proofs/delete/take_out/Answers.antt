@@ -7,21 +7,21 @@ use Rattle.removing.proofs.TakingOut.{sits-in, sits-number, sits-some, sits-leng
 use Rattle.removing.proofs.delete.take_out.Goals as goal
 use Rattle.removing.proofs.delete.take_out.Goals.{else-fewer-eq0-via-then-fewer-eq0+else-i-nodes, else-fewer-eq0-via-else-fewer-eq0}
 
-pub number-i-requires : goal.number-i-requires
-number-i-requires c = (sits-in c.requires.1, sits-number c.requires.1)
+pub column_at-i-requires : goal.column_at-i-requires
+column_at-i-requires c = (sits-in c.requires.1, sits-number c.requires.1)
 
 pub fewer-requires : goal.fewer-requires
-fewer-requires c = rw c.unlink.ensures.heads (sits-length c.requires.1 c.number-i.ensures)
+fewer-requires c = rw c.unlink.ensures.heads (sits-length c.requires.1 c.column_at-i.ensures)
 
 pub returns-then-i-nodes-clause-deleted : goal.returns-then-i-nodes-clause-deleted
 returns-then-i-nodes-clause-deleted c =
     let few = c.fewer.ensures in
     let out = c.unlink.ensures in
     λ g w. (
-      c.number-i.result,
-      ending_of _ (sits-some w c.number-i.ensures),
-      out-emptied w c.number-i.ensures (rw out.heads at few.heads) (few.up ∙ out.up) (few.down ∙ out.down) (rw out.heads at few.length) c.if-fewer-eq0.true
-          (le-leb c.number-i.result c.args.nodes.now.np (omega (arith, c.if-i-nodes.true, few.nodes.np, out.nodes.np))),
+      c.column_at-i.result,
+      ending_of _ (sits-some w c.column_at-i.ensures),
+      out-emptied w c.column_at-i.ensures (rw out.heads at few.heads) (few.up ∙ out.up) (few.down ∙ out.down) (rw out.heads at few.length) c.if-fewer-eq0.true
+          (le-leb c.column_at-i.result c.args.nodes.now.np (omega (arith, c.if-i-nodes.true, few.nodes.np, out.nodes.np))),
     )
 
 pub returns-clause-deleted : goal.returns-clause-deleted
@@ -31,9 +31,9 @@ returns-clause-deleted c =
     λ g w. (
       0,
       refl,
-      out-not w c.number-i.ensures (rw out.heads at few.heads) (few.up ∙ out.up) (few.down ∙ out.down) (rw out.heads at few.length)
+      out-not w c.column_at-i.ensures (rw out.heads at few.heads) (few.up ∙ out.up) (few.down ∙ out.down) (rw out.heads at few.length)
           (elim c.else-fewer-eq0.branch [
-            | else-fewer-eq0-via-then-fewer-eq0+else-i-nodes v ↦ inr (lt-leb c.number-i.result c.args.nodes.now.np (omega (arith, v.if-i-nodes.false, few.nodes.np, out.nodes.np)))
+            | else-fewer-eq0-via-then-fewer-eq0+else-i-nodes v ↦ inr (lt-leb c.column_at-i.result c.args.nodes.now.np (omega (arith, v.if-i-nodes.false, few.nodes.np, out.nodes.np)))
             | else-fewer-eq0-via-else-fewer-eq0 v ↦ inl v.if-fewer-eq0.false
           ]),
     )

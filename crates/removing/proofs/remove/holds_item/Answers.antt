@@ -8,10 +8,10 @@ use Rattle.removing.proofs.remove.holds_item.Goals.{In-None, In-Some}
 
 -- what is read at q, where there is no item and where there is one
 bare : (c : In-None) → item_of (head c.args.nodes.now.heads.now c.loop-q.q) ≡ 0
-bare c = item_none _ (sym c.in-None.is ∙ c.item.ensures)
+bare c = item_none _ (sym c.in-None.is ∙ c.column.ensures)
 
 some : (c : In-Some) → (item_of (head c.args.nodes.now.heads.now c.loop-q.q) ≡ c.in-Some.i) × (item_of (head c.args.nodes.now.heads.now c.loop-q.q) ≢ 0)
-some c = let s = item_some _ _ (sym c.in-Some.is ∙ c.item.ensures) in (s.0, omega (arith, s))
+some c = let s = item_some _ _ (sym c.in-Some.is ∙ c.column.ensures) in (s.0, omega (arith, s))
 
 pub loop-q-smaller-in-None : goal.loop-q-smaller-in-None
 loop-q-smaller-in-None c =

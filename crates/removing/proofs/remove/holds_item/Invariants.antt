@@ -3,11 +3,11 @@ use Rattle.std.proofs.Common.{length}
 use Rattle.links.specs.Ground.{Ground}
 use Rattle.links.specs.Way.{way}
 use Rattle.removing.specs.Removing.{Walking}
-use Rattle.removing.proofs.Holding.{Looking}
+use Rattle.removing.proofs.Holding.{HoldingAt}
 use Rattle.removing.proofs.remove.holds_item.Given as goal
 
 abbrev pub invariant-loop-q : goal.invariant-loop-q
-invariant-loop-q l = (g : Ground) → Walking g l.r l.nodes.heads.now l.nodes.up.now → Looking g l.r l.p l.q
+invariant-loop-q l = (g : Ground) → Walking g l.r l.nodes.heads.now l.nodes.up.now → HoldingAt g l.r l.p l.q
 
 abbrev pub decreases-loop-q : goal.decreases-loop-q
 decreases-loop-q l = way (length l.nodes.heads.now) l.r l.q

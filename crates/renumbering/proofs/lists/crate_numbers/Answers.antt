@@ -4,7 +4,7 @@ use lib.Dec.{ltb}
 use Rattle.std.proofs.lemmas.List.{length-map, map-id}
 use Rattle.rules.specs.Lists.{place}
 use Rattle.rules.specs.Renumber.{sd, crate_item, crate_outcome}
-use Rattle.renumbering.specs.Parts.{Sound}
+use Rattle.renumbering.specs.Parts.{Renumberable}
 use Rattle.renumbering.proofs.Refusing.{accepted}
 use Rattle.renumbering.proofs.Shifting.{secondary-above, crate-number}
 use Rattle.renumbering.proofs.Calls.{lists-refused, lists-done}
@@ -18,7 +18,7 @@ returns-in_err-check c =
 pub sd-sd-requires : goal.sd-sd-requires
 sd-sd-requires c =
     let a = c.args in
-    let w = accepted _ a.primaries _ a.out.now (sym (c.in_ok-check.ensures a.out.now refl)) in subst (λ l. Sound l a.primaries) (map-id a.kept.now) w.0
+    let w = accepted _ a.primaries _ a.out.now (sym (c.in_ok-check.ensures a.out.now refl)) in subst (λ l. Renumberable l a.primaries) (map-id a.kept.now) w.0
 
 pub write-requires : goal.write-requires
 write-requires c =

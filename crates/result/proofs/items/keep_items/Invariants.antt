@@ -4,5 +4,5 @@ use Rattle.result.specs.Filled.{Filled}
 use Rattle.result.specs.Kept.{kept_from}
 use Rattle.result.proofs.items.keep_items.Given as goal
 
-abbrev pub invariant-loop-c : goal.invariant-loop-c
-invariant-loop-c l = (l.next + (l.b - l.c) ≤ l.b - l.a) × Filled l.initial.kept (kept_from l.nodes.heads.now l.a l.c) l.kept l.next
+abbrev pub invariant-loop-item : goal.invariant-loop-item
+invariant-loop-item l = (l.next + (l.b - l.item) ≤ l.b - l.a) × Filled l.initial.kept (kept_from l.nodes.heads.now l.a l.item) l.kept l.next

@@ -3,19 +3,19 @@
 use Rattle.std.proofs.Common.{arith, ◌∙◌}
 use Rattle.result.proofs.SameWriter.{writer-then}
 use Rattle.result.proofs.OneOption.{reading-heads, reading-tints, reading-over, reading-items, reading-colours, reading_small, reading-one, reading-fits, reading-ends, reading-numbers, reading-done}
-use Rattle.result.proofs.option.get_option.Goals.{in-Some-item, in_default-item}
+use Rattle.result.proofs.option.get_option.Goals.{in-Some-column, in_default-column}
 use Rattle.result.proofs.option.get_option.Goals as goal
 
 pub option-requires : goal.option-requires
 option-requires c = let p = c.requires in reading-heads p.3 (c.loop-k.invariant.4 p.0 p.1 p.2 p.3)
 
-pub item-item-requires : goal.item-item-requires
-item-item-requires c = let p = c.requires in reading-heads p.3 (c.loop-k.invariant.4 p.0 p.1 p.2 p.3)
+pub column-column-requires : goal.column-column-requires
+column-column-requires c = let p = c.requires in reading-heads p.3 (c.loop-k.invariant.4 p.0 p.1 p.2 p.3)
 
 pub overflow_cast-i : goal.overflow_cast-i
 overflow_cast-i c =
     let p = c.requires in
-    omega (arith, reading_small p.3 (c.loop-k.invariant.4 p.0 p.1 p.2 p.3) (cc) c.in-Some-item.i (cc))
+    omega (arith, reading_small p.3 (c.loop-k.invariant.4 p.0 p.1 p.2 p.3) (cc) c.in-Some-column.i (cc))
 
 pub bounds-tints-q : goal.bounds-tints-q
 bounds-tints-q c = let p = c.requires in reading-tints p.3 (c.loop-k.invariant.4 p.0 p.1 p.2 p.3)
@@ -24,7 +24,7 @@ pub put-requires : goal.put-requires
 put-requires c =
     let p = c.requires in
     let b = c.loop-k.invariant.4 p.0 p.1 p.2 p.3 in
-    (reading-items p.3 b (cc) c.in-Some-item.i (cc), reading-colours p.3 b (cc) c.in-Some-item.i (cc))
+    (reading-items p.3 b (cc) c.in-Some-column.i (cc), reading-colours p.3 b (cc) c.in-Some-column.i (cc))
 
 pub overflow_add-q : goal.overflow_add-q
 overflow_add-q c = let p = c.requires in omega (arith, reading-heads p.3 (c.loop-k.invariant.4 p.0 p.1 p.2 p.3))
@@ -35,15 +35,15 @@ loop-k-smaller c = let p = c.requires in omega (arith, reading-heads p.3 (c.loop
 pub loop-k-preserved : goal.loop-k-preserved
 loop-k-preserved c =
     let v = c.loop-k.invariant in
-    elim c.match-item.branch [
-      | in-Some-item w ↦ rw w.out-is (
+    elim c.match-column.branch [
+      | in-Some-column w ↦ rw w.out-is (
         writer-then v.0 w.put.ensures.lists,
         w.put.ensures.ends ∙ v.1,
         w.put.ensures.numbers ∙ v.2,
         w.put.ensures.option ∙ v.3,
-        λ g old xs d. rw (w.put.ensures.items, w.put.ensures.colours, w.put.ensures.entry) (reading-one d (v.4 g old xs d) (cc) w.in-Some-item.i (cc)),
+        λ g old xs d. rw (w.put.ensures.items, w.put.ensures.colours, w.put.ensures.entry) (reading-one d (v.4 g old xs d) (cc) w.in-Some-column.i (cc)),
       )
-      | in_default-item w ↦ rw w.out-is (v.0, v.1, v.2, v.3, λ g old xs d. reading-over d (v.4 g old xs d) (cc) (cc))
+      | in_default-column w ↦ rw w.out-is (v.0, v.1, v.2, v.3, λ g old xs d. reading-over d (v.4 g old xs d) (cc) (cc))
     ]
 
 pub end-requires : goal.end-requires

@@ -2,7 +2,7 @@
 use Rattle.std.proofs.Common.{◌≡◌, ◌-◌, List, length}
 use Rattle.rules.specs.Result.{Numbered}
 use Rattle.links.specs.Ground.{Ground}
-use Rattle.result.specs.Writing.{Out}
+use Rattle.result.specs.Writing.{FourLists}
 use Rattle.result.specs.Writer.{SameWriter, lists_of}
 use Rattle.result.specs.Reading.{OptionAt}
 use Rattle.result.proofs.OneOption.{Reading}
@@ -14,7 +14,7 @@ invariant-loop-k l =
     × (l.out.ends.now ≡ l.fn.out.ends.now)
     × (l.out.numbers.now ≡ l.fn.out.numbers.now)
     × (l.out.option ≡ l.fn.out.option)
-    × ((g : Ground) (old : Out) (xs : List Numbered)
+    × ((g : Ground) (old : FourLists) (xs : List Numbered)
     → OptionAt g old (lists_of l.fn.out) xs l.nodes.heads.now l.tints l.r l.fn.out.option l.fn.out.entry
     → Reading g old xs l.r l.out.items.now l.out.colours.now l.out.entry l.q)
 

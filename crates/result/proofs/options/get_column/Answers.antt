@@ -14,8 +14,8 @@ loop-r-init c = (same-writer c.args.out.now, λ g old xs d. rw c.below-r.ensures
 pub lead-requires : goal.lead-requires
 lead-requires c = let p = c.requires in (p.0, place-led p.3 (c.loop-r.invariant.1 p.0 p.1 p.2 p.3) (omega arith))
 
-pub item-requires : goal.item-requires
-item-requires c =
+pub column-requires : goal.column-requires
+column-requires c =
     let p = c.requires in
     let b = c.loop-r.invariant.1 p.0 p.1 p.2 p.3 in
     lead-in p.3 b (omega arith) (c.lead.ensures p.0 (place-led p.3 b (omega arith)))
@@ -27,7 +27,7 @@ get_option-requires c =
       p.0,
       p.1,
       p.2 ++ column_to p.0 c.args.c (reach p.0.plan c.loop-r.r),
-      place-option p.3 b (omega arith) (c.lead.ensures p.0 (place-led p.3 b (omega arith))) (ap is_some (sym c.item.ensures) ∙ c.if-first.ensures),
+      place-option p.3 b (omega arith) (c.lead.ensures p.0 (place-led p.3 b (omega arith))) (ap is_some (sym c.column.ensures) ∙ c.if-first.ensures),
     )
 
 pub below-r-requires-in-loop-r : goal.below-r-requires-in-loop-r
@@ -48,7 +48,7 @@ loop-r-preserved c =
         λ g old xs d.
             let b = v.1 g old xs d in
             let f = c.lead.ensures g (place-led d b (omega arith)) in
-            let i = ap is_some (sym c.item.ensures) ∙ w.if-first.ensures in
+            let i = ap is_some (sym c.column.ensures) ∙ w.if-first.ensures in
             let o = w.get_option.ensures.option g old (xs ++ column_to g c.args.c (reach g.plan c.loop-r.r)) (place-option d b (omega arith) f i) in
             place-one d b (omega arith) f i _ _ _ o,
       )
@@ -56,7 +56,7 @@ loop-r-preserved c =
         v.0,
         λ g old xs d.
             let b = v.1 g old xs d in
-            place-over d b (omega arith) (c.lead.ensures g (place-led d b (omega arith))) (ap is_some (sym c.item.ensures) ∙ w.if-first.ensures),
+            place-over d b (omega arith) (c.lead.ensures g (place-led d b (omega arith))) (ap is_some (sym c.column.ensures) ∙ w.if-first.ensures),
       )
     ]
 

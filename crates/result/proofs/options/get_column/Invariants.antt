@@ -3,18 +3,18 @@ use Rattle.std.proofs.Common.{List, length}
 use Rattle.rules.specs.Result.{Numbered}
 use Rattle.links.specs.Ground.{Ground}
 use Rattle.links.proofs.Descending.{left}
-use Rattle.result.specs.Writing.{Out}
+use Rattle.result.specs.Writing.{FourLists}
 use Rattle.result.specs.Writer.{SameWriter, lists_of}
 use Rattle.result.specs.Reading.{ColumnAt}
-use Rattle.result.proofs.OneColumn.{Place}
+use Rattle.result.proofs.OneColumn.{AtEntry}
 use Rattle.result.proofs.options.get_column.Given as goal
 
 abbrev pub invariant-loop-r : goal.invariant-loop-r
 invariant-loop-r l =
     SameWriter l.fn.out l.out
-    × ((g : Ground) (old : Out) (xs : List Numbered)
+    × ((g : Ground) (old : FourLists) (xs : List Numbered)
     → ColumnAt g old (lists_of l.fn.out) xs l.nodes l.tints l.c l.fn.out.option l.fn.out.entry
-    → Place g old (lists_of l.out) xs l.c l.out.option l.out.entry l.r)
+    → AtEntry g old (lists_of l.out) xs l.c l.out.option l.out.entry l.r)
 
 abbrev pub decreases-loop-r : goal.decreases-loop-r
 decreases-loop-r l = left (length l.nodes.heads.now) l.nodes.start l.r

@@ -5,12 +5,12 @@ use Rattle.links.specs.Shown.{shown}
 use Rattle.result.specs.Left.{options_to}
 use Rattle.result.specs.Writing.{Written}
 use Rattle.result.specs.Writer.{SameWriter, lists_of}
-use Rattle.result.specs.Reading.{Laid, Holding}
+use Rattle.result.specs.Reading.{NodesRead, LongEnough}
 use Rattle.result.proofs.options.get_options.Given as goal
 
-abbrev pub invariant-loop-c : goal.invariant-loop-c
-invariant-loop-c l =
+abbrev pub invariant-loop-item : goal.invariant-loop-item
+invariant-loop-item l =
     SameWriter l.initial.out l.out
-    × ((g : Ground) → Laid g l.nodes l.tints
-    → Holding (results_of l.nodes.n (shown g.plan g.on)) (lists_of l.initial.out)
-    → Written (lists_of l.initial.out) (lists_of l.out) (options_to g l.c) l.out.option l.out.entry)
+    × ((g : Ground) → NodesRead g l.nodes l.tints
+    → LongEnough (results_of l.nodes.n (shown g.plan g.on)) (lists_of l.initial.out)
+    → Written (lists_of l.initial.out) (lists_of l.out) (options_to g l.item) l.out.option l.out.entry)

@@ -1,0 +1,138 @@
+-- Undoing the walk round the tested option, item by item. Assumes nothing.
+use Prim.Native.Nat.{ℕ, ◌+◌, ◌-◌, ◌<◌}
+use native.Mathlib.Omega.{arith}
+use mathlib.Core.Path.{◌≡◌, ◌∙◌, ap, sym, subst}
+use mathlib.Core.Logic.{◌≢◌}
+use mathlib.Core.Bool.{true}
+use mathlib.Core.List.{List, ◌++◌}
+use lib.ListN.{length}
+use lib.IntN.{ℤ}
+use Rattle.std.specs.Prelude.{None, Some}
+use Rattle.links.specs.Head.{item_of, head}
+use Rattle.links.specs.Column.{at}
+use Rattle.links.specs.Plan.{EntryOf, Header}
+use Rattle.links.specs.Ground.{Ground, Tidy, taken, Fresh, Holds}
+use Rattle.links.specs.Row.{walked}
+use Rattle.links.specs.Way.{way_back}
+use Rattle.links.specs.Nodes.{column_in}
+use Rattle.links.proofs.Endings.{item_none, item_some}
+use Rattle.links.specs.Taking.{rivals, testing}
+use Rattle.links.proofs.Plans.{row-mate}
+use Rattle.links.proofs.Rows.{At, walked_none}
+use Rattle.links.proofs.Grounds.{fresh-front}
+use Rattle.blocking.specs.Undo.{after, Below, Behind}
+use Rattle.blocking.proofs.After.{after-tidy, after_more, after-header, fresh-after, held}
+use Rattle.blocking.proofs.Back as Back
+use Rattle.blocking.proofs.Upwards.{header-in, from-header}
+use Rattle.blocking.proofs.Testing.{testing-more}
+
+module _ {h : Ground} {tints : List ℕ} {k r s : ℕ} {heads : List ℤ} {up down : List ℕ} (m : Behind h tints k r s heads up down) where
+  abbrev out : List ℕ
+  out = testing h (walked h r (k + 1))
+
+  pub behind-in : (k < length heads) × (k < length down)
+  behind-in = Back.back_in h out m.tidy m.fresh r m.entry heads up down m.holds k m.from m.till
+
+  pub behind-some : 0 < k
+  behind-some = Back.back_some h out m.tidy m.fresh r m.entry heads up down m.holds k m.from m.till
+
+  -- the walk back came to r
+  pub behind-done : k ≡ r → Holds h heads up down
+  behind-done e = subst (λ (qs : List ℕ). Holds (taken h (testing h qs)) heads up down) (ap (λ (j : ℕ). walked h r (j + 1)) e ∙ walked_none h m.tidy r m.entry) m.holds
+
+  module _ (d : k ≢ r) where
+    -- over a head without an item
+    module _ (none : None ≡ column_in (head heads k)) where
+      no_item : item_of (head heads k) ≡ 0
+      no_item = item_none (head heads k) none
+
+      on-at : At h r (at down k + 1)
+      on-at = Back.over-at h out m.tidy m.fresh r m.entry heads up down m.holds k m.from m.till d no_item
+
+      same-walked : walked h r (k + 1) ≡ walked h r (at down k + 1)
+      same-walked = sym (Back.over-walked h out m.tidy m.fresh r m.entry heads up down m.holds k m.from m.till d no_item)
+
+      pub behind-over : Behind h tints (at down k) r s heads up down
+      behind-over = record {
+        tidy = m.tidy;
+        headers = m.headers;
+        tinted = m.tinted;
+        starts = m.starts;
+        entry = m.entry;
+        from = on-at.from;
+        till = on-at.till;
+        fresh = subst (λ (qs : List ℕ). Fresh h (testing h qs)) same-walked m.fresh;
+        holds = subst (λ (qs : List ℕ). Holds (taken h (testing h qs)) heads up down) same-walked m.holds;
+      }
+
+      pub behind-over-way : (n : ℕ) → length heads ≡ n → way_back n r (at down k) < way_back n r k
+      behind-over-way = Back.over-way h out m.tidy m.fresh r m.entry heads up down m.holds k m.from m.till d no_item
+
+    -- at an entry of column i
+    module _ {i : ℕ} (some : Some i ≡ column_in (head heads k)) where
+      an_item : item_of (head heads k) ≢ 0
+      an_item e = omega (arith, e, (item_some (head heads k) i some).1)
+
+      at_entry : At h r k
+      at_entry = Back.full_at h out m.tidy m.fresh r m.entry heads up down m.holds k m.from m.till d an_item
+
+      item-is : i ≡ h.plan.col k
+      item-is = sym (item_some (head heads k) i some).0 ∙ Back.full-col h out m.tidy m.fresh r m.entry heads up down m.holds k m.from m.till d an_item
+
+      entry : EntryOf h.plan k
+      entry = row-mate h.plan m.tidy.planned r k m.entry at_entry.from (omega (arith, m.till))
+
+      col-header : Header h.plan (h.plan.col k)
+      col-header = m.tidy.planned.entry k entry
+
+      -- what was taken in the earlier columns, and the ground then
+      abbrev earlier : List ℕ
+      earlier = testing h (walked h r k)
+
+      abbrev then : Ground
+      then = after h earlier
+
+      one_more : out ≡ earlier ++ rivals then k
+      one_more = ap (testing h) (Back.full-one h out m.tidy m.fresh r m.entry heads up down m.holds k m.from m.till d an_item) ∙ testing-more h (walked h r k) k
+
+      fresh-one : Fresh h (earlier ++ rivals then k)
+      fresh-one = subst (λ (xs : List ℕ). Fresh h xs) one_more m.fresh
+
+      fresh-earlier : Fresh h earlier
+      fresh-earlier = fresh-front h earlier (rivals then k) fresh-one
+
+      fresh-last : Fresh then (rivals then k)
+      fresh-last = fresh-after h earlier (rivals then k) fresh-one
+
+      then-tidy : Tidy then
+      then-tidy = after-tidy h earlier m.tidy fresh-earlier
+
+      holds-last : Holds (taken then (rivals then k)) heads up down
+      holds-last = subst (λ (G : Ground). Holds G heads up down) (ap (taken h) one_more ∙ sym (after_more h earlier (rivals then k))) m.holds
+
+      -- the header of the column is where it was
+      header-on : then.on (h.plan.col k) ≡ true
+      header-on = after-header h earlier m.tidy fresh-earlier (h.plan.col k) col-header ∙ m.headers (h.plan.col k) col-header
+
+      pub behind-link : i < length up
+      behind-link = rw item-is (header-in then tints (h.plan.col k) (h.plan.tint k) s then-tidy col-header header-on fresh-last heads up down holds-last)
+
+      pub behind-below : {p : ℕ} → p ≡ at up i → Below (after h (testing h (walked h r k))) tints p (at tints k) s heads up down
+      behind-below a =
+          rw (a, item-is, m.tinted.tint k entry)
+          (from-header then tints (h.plan.col k) (h.plan.tint k) s then-tidy col-header header-on fresh-last heads up down holds-last m.tinted m.starts)
+
+      pub behind-back : {heads' : List ℤ} {up' down' : List ℕ} → Holds (after h (testing h (walked h r k))) heads' up' down' → Behind h tints (k - 1) r s heads' up' down'
+      behind-back l =
+          let e : k - 1 + 1 ≡ k = omega (arith, behind-some) in
+          record {
+            tidy = m.tidy;
+            headers = m.headers;
+            tinted = m.tinted;
+            starts = m.starts;
+            entry = m.entry;
+            from = rw e at_entry.from;
+            till = rw e at_entry.till;
+            fresh = rw e fresh-earlier;
+            holds = rw e (held h earlier l);
+          }

@@ -1,0 +1,133 @@
+-- The walk forwards over the items of the tested option. Assumes nothing.
+use Prim.Native.Nat.{ℕ, ◌+◌, ◌<◌}
+use native.Mathlib.Omega.{arith}
+use mathlib.Core.Path.{◌≡◌, refl, ◌∙◌, ap, sym, subst}
+use mathlib.Core.Logic.{◌≢◌}
+use mathlib.Core.Bool.{true}
+use mathlib.Core.List.{List, []}
+use lib.ListN.{length}
+use lib.IntN.{ℤ}
+use Rattle.std.specs.Prelude.{None, Some}
+use Rattle.links.specs.Head.{item_of, head}
+use Rattle.links.specs.Column.{at}
+use Rattle.links.specs.Plan.{EntryOf, Header}
+use Rattle.links.specs.Ground.{Ground, Tidy, taken, Holds}
+use Rattle.links.specs.Row.{walked}
+use Rattle.links.specs.Way.{way, reach}
+use Rattle.links.specs.Nodes.{column_in}
+use Rattle.links.proofs.Endings.{item_none, item_some}
+use Rattle.links.specs.Taking.{testing}
+use Rattle.links.proofs.Plans.{header-before}
+use Rattle.links.proofs.Rows.{At, walk_begins, walked_none}
+use Rattle.blocking.specs.Forward.{Test, Stage, out_at, ground_at, Outer, Item, rivals_to, Middle}
+use Rattle.blocking.proofs.After.{after-header}
+use Rattle.blocking.proofs.Columns.{none-gathered, down-on, down-col, down-gathered}
+use Rattle.blocking.proofs.Forth as Forth
+use Rattle.blocking.proofs.Stages.{stage-none, item-entry, ground-tidy}
+
+-- the place of the walk, and what is known there
+module _ {h : Ground} {tints marks : List ℕ} {r s np : ℕ} {heads : List ℤ} {up down : List ℕ} where
+  -- the walk begins at the node after r
+  pub outer-begins : Test h tints marks r s np → Holds h heads up down → Outer h tints marks r s np (r + 1) heads up down
+  outer-begins w l =
+      let b = walk_begins h w.tested.tidy r w.tested.entry in
+      let n = walked_none h w.tested.tidy r w.tested.entry in
+      record {
+        test = w;
+        from = b.from;
+        till = b.till;
+        stage = subst (λ (qs : List ℕ). Stage h qs (testing h qs)) (sym n) (stage-none h);
+        alive = λ i a b c d. rw l.heads-are d;
+        holds = subst (λ (qs : List ℕ). Holds (taken h (testing h qs)) heads up down) (sym n) l;
+      }
+
+  module _ {q : ℕ} (m : Outer h tints marks r s np q heads up down) where
+    t : Tidy h
+    t = m.test.tested.tidy
+
+    e : EntryOf h.plan r
+    e = m.test.tested.entry
+
+    -- it is within the lists
+    pub outer-in : (q < length heads) × (q < length up)
+    outer-in = Forth.forth-in h (out_at h r q) t m.stage.fresh r e heads up down m.holds q m.from m.till
+
+    module _ (d : q ≢ r) where
+      -- over a head without an item
+      module _ (none : None ≡ column_in (head heads q)) where
+        no_item : item_of (head heads q) ≡ 0
+        no_item = item_none (head heads q) none
+
+        on-at : At h r (at up q)
+        on-at = Forth.over-at h (out_at h r q) t m.stage.fresh r e heads up down m.holds q m.from m.till d no_item
+
+        same-walked : walked h r q ≡ walked h r (at up q)
+        same-walked = sym (Forth.over-walked h (out_at h r q) t m.stage.fresh r e heads up down m.holds q m.from m.till d no_item)
+
+        pub outer-over : Outer h tints marks r s np (at up q) heads up down
+        outer-over = record {
+          test = m.test;
+          from = on-at.from;
+          till = on-at.till;
+          stage = subst (λ (qs : List ℕ). Stage h qs (testing h qs)) same-walked m.stage;
+          alive = m.alive;
+          holds = subst (λ (qs : List ℕ). Holds (taken h (testing h qs)) heads up down) same-walked m.holds;
+        }
+
+        pub outer-over-way : (n : ℕ) → length heads ≡ n → way n r (at up q) < way n r q
+        outer-over-way = Forth.over-way h (out_at h r q) t m.stage.fresh r e heads up down m.holds q m.from m.till d no_item
+
+      -- at an entry of column i, which is entered
+      module _ {i : ℕ} (some : Some i ≡ column_in (head heads q)) where
+        an_item : item_of (head heads q) ≢ 0
+        an_item e = omega (arith, e, (item_some (head heads q) i some).1)
+
+        pub outer-item : Item h tints marks r s np q
+        outer-item = record {
+          test = m.test;
+          from = m.from;
+          till = Forth.full-inside h (out_at h r q) t m.stage.fresh r e heads up down m.holds q m.from m.till d an_item;
+          other = d;
+          full = Forth.full-head h (out_at h r q) t m.stage.fresh r e heads up down m.holds q m.from m.till d an_item;
+          stage = m.stage;
+        }
+
+        item-is : i ≡ h.plan.col q
+        item-is = sym (item_some (head heads q) i some).0 ∙ Forth.full-col h (out_at h r q) t m.stage.fresh r e heads up down m.holds q m.from m.till d an_item
+
+        entry : EntryOf h.plan q
+        entry = item-entry outer-item
+
+        header : Header h.plan (h.plan.col q)
+        header = t.planned.entry q entry
+
+        g-tidy : Tidy (ground_at h r q)
+        g-tidy = ground-tidy outer-item
+
+        pub outer-link : i < length down
+        outer-link = rw (item-is, m.holds.down-are) (omega (arith, header-before h.plan t.planned (h.plan.col q) header, t.planned.room, g-tidy.ring.downs))
+
+        header-on : (ground_at h r q).on (h.plan.col q) ≡ true
+        header-on = after-header h (out_at h r q) t m.stage.fresh (h.plan.col q) header ∙ m.test.tested.headers (h.plan.col q) header
+
+        col-is : h.plan.col (h.plan.col q) ≡ h.plan.col q
+        col-is = t.planned.header (h.plan.col q) header
+
+        still : (y : ℕ) → h.plan.col y ≡ h.plan.col q → (taken (ground_at h r q) []).on y ≡ (ground_at h r q).on y
+        still y c = refl
+
+        pub enter : {p : ℕ} → p ≡ at down i → Middle h tints marks r s np q p heads up down
+        enter {p} a =
+            let b : p ≡ at (taken (ground_at h r q) []).down (h.plan.col q) = a ∙ ap (at down) item-is ∙ ap (λ (v : List ℕ). at v (h.plan.col q)) m.holds.down-are in
+            record {
+              item = outer-item;
+              on = rw b (down-on (ground_at h r q) g-tidy (h.plan.col q) (h.plan.tint q) header [] g-tidy still (h.plan.col q) header-on col-is);
+              col = rw b (down-col (ground_at h r q) g-tidy (h.plan.col q) (h.plan.tint q) header [] g-tidy still (h.plan.col q) header-on col-is);
+              alive = m.alive;
+              holds = subst (λ (xs : List ℕ). Holds (taken (ground_at h r q) xs) heads up down) (sym (nothing p b)) (record { heads-are = m.holds.heads-are; up-are = m.holds.up-are; down-are = m.holds.down-are });
+            }
+          where
+            nothing : (p : ℕ) → p ≡ at (taken (ground_at h r q) []).down (h.plan.col q) → rivals_to h r q (reach h.plan p) ≡ []
+            nothing p b =
+                rw b (down-gathered (ground_at h r q) g-tidy (h.plan.col q) (h.plan.tint q) header [] g-tidy still (h.plan.col q) header-on col-is
+                ∙ none-gathered (ground_at h r q) g-tidy (h.plan.col q) (h.plan.tint q) (h.plan.col q + 1) (omega (arith, header-before h.plan t.planned (h.plan.col q) header)))

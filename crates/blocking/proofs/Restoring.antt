@@ -1,0 +1,89 @@
+-- From the place where the test ended, the undoing: what each of its functions finds. Assumes nothing.
+use Prim.Native.Nat.{ℕ, ◌+◌, ◌-◌, ◌<◌, ◌≤◌}
+use native.Mathlib.Omega.{arith}
+use mathlib.Core.Path.{◌≡◌, ◌∙◌, sym, subst}
+use mathlib.Core.List.{List}
+use lib.ListN.{length}
+use lib.IntN.{ℤ}
+use Rattle.links.specs.Column.{at}
+use Rattle.links.specs.Plan.{lo, hi, EntryOf}
+use Rattle.links.specs.Ground.{Ground, Tidy, taken, Fresh, Holds}
+use Rattle.links.specs.Taking.{gather_to, rival_at}
+use Rattle.blocking.specs.Undo.{Half, Below, Behind}
+use Rattle.blocking.specs.Forward.{Test, out_at, ground_at, rivals_to, ground_to, Inner, Stopped}
+use Rattle.blocking.proofs.After.{held}
+use Rattle.blocking.proofs.Columns.{rival→}
+use Rattle.blocking.proofs.Upwards.{Above, link-in, step-up}
+use Rattle.blocking.proofs.Stages.{item-entry, ground-tidy, rivals-fresh}
+use Rattle.blocking.proofs.Entries.{to-tidy, row}
+
+-- The walk stopped at node q of r's option, or came round: `backup` from the node before.
+module _ {h : Ground} {tints marks : List ℕ} {r s np : ℕ} (q : ℕ) (w : Test h tints marks r s np) (from : lo h.plan r ≤ q) (till : q ≤ hi h.plan r) (f : Fresh h (out_at h r q)) {heads : List ℤ} {up down : List ℕ}
+    (l : Holds (taken h (out_at h r q)) heads up down) where
+  pub place-some : 0 < q
+  place-some = omega (arith, from, w.tested.tidy.planned.from (h.plan.number r) w.tested.entry.option)
+
+  pub to-behind : Behind h tints (q - 1) r s heads up down
+  to-behind =
+      let e : q - 1 + 1 ≡ q = omega (arith, place-some) in
+      record {
+        tidy = w.tested.tidy;
+        headers = w.tested.headers;
+        tinted = w.tinted;
+        starts = w.starts;
+        entry = w.tested.entry;
+        from = rw e from;
+        till = rw e till;
+        fresh = rw e f;
+        holds = rw e l;
+      }
+
+module _ {h : Ground} {tints marks : List ℕ} {r s np : ℕ} {heads : List ℤ} {up down : List ℕ} {q p qq : ℕ} (m : Stopped h tints marks r s np q p qq heads up down) where
+  I : Inner h tints marks r s np q p qq heads up down
+  I = m.inner
+
+  t : Tidy h
+  t = I.item.test.tested.tidy
+
+  p-row : EntryOf h.plan p
+  p-row = row I
+
+  -- first the walk round p, up to the node before qq
+  pub stopped-some : 0 < qq
+  stopped-some = omega (arith, I.from, t.planned.from (h.plan.number p) p-row.option)
+
+  pub stopped-half : Half (ground_to h r q p) p (qq - 1) heads up down
+  stopped-half =
+      let e : qq - 1 + 1 ≡ qq = omega (arith, stopped-some) in
+      record { tidy = to-tidy I; entry = p-row; from = rw e I.from; till = rw e I.till; fresh = rw e I.fresh; holds = rw e I.holds }
+
+  -- then the column, from the node above p
+  stopped-above : {heads' : List ℤ} {up' down' : List ℕ} → Holds (ground_to h r q p) heads' up' down' → Above (ground_at h r q) tints p (at tints q) s heads' up' down'
+  stopped-above {heads'} {up'} {down'} l =
+      -- the rivals above p, in p's own column
+      let rivals : ℕ → List ℕ = λ i. gather_to (rival_at (ground_at h r q) i (h.plan.tint q)) (ground_at h r q) p in
+      let rival = rival→ (ground_at h r q) (h.plan.col q) (h.plan.tint q) p I.rival in
+      rw (I.item.test.tinted.tint q (item-entry I.item)) (record {
+        tidy = ground-tidy I.item;
+        tinted = I.item.test.tinted;
+        starts = I.item.test.starts;
+        on = rival.0;
+        entry = p-row;
+        fresh = subst (λ (i : ℕ). Fresh (ground_at h r q) (rivals i)) (sym rival.1) (rivals-fresh I.item p);
+        holds = subst (λ (i : ℕ). Holds (taken (ground_at h r q) (rivals i)) heads' up' down') (sym rival.1) (held (ground_at h r q) (rivals_to h r q p) l);
+      })
+
+  pub stopped-link : {heads' : List ℤ} {up' down' : List ℕ} → Holds (ground_to h r q p) heads' up' down' → p < length up'
+  stopped-link l = link-in (stopped-above l)
+
+  pub stopped-below : {heads' : List ℤ} {up' down' : List ℕ} {u : ℕ} → Holds (ground_to h r q p) heads' up' down' → u ≡ at up' p
+      → Below (ground_at h r q) tints u (at tints q) s heads' up' down'
+  stopped-below l = step-up (stopped-above l)
+
+  -- then the items before q
+  pub stopped-behind : {heads' : List ℤ} {up' down' : List ℕ} → Holds (ground_at h r q) heads' up' down' → Behind h tints (q - 1) r s heads' up' down'
+  stopped-behind l = to-behind q I.item.test I.item.from (omega (arith, I.item.till)) I.item.stage.fresh (held h (out_at h r q) l)
+
+-- Two sets of lists that one ground has are the same.
+pub lists-same : {h : Ground} {heads heads' : List ℤ} {up up' down down' : List ℕ} → Holds h heads up down → Holds h heads' up' down' → (heads' ≡ heads) × (up' ≡ up) × (down' ≡ down)
+lists-same a b = (b.heads-are ∙ sym a.heads-are, b.up-are ∙ sym a.up-are, b.down-are ∙ sym a.down-are)

@@ -1,0 +1,166 @@
+-- The walk forwards down the column of one item of the tested option. Assumes nothing.
+use Prim.Native.Nat.{ℕ, ◌+◌, ◌<◌, ◌≤◌}
+use native.Mathlib.Omega.{arith}
+use mathlib.Core.Path.{◌≡◌, ◌∙◌, ap, sym, subst}
+use mathlib.Core.Logic.{◌≢◌}
+use mathlib.Core.Bool.{true, false, not, false≢true}
+use mathlib.Core.List.{List, [], ◌∷◌, ◌++◌}
+use borrow.Author.Tests.{not-true, not-false}
+use lib.ListN.{length}
+use lib.IntN.{ℤ}
+use Rattle.rules.specs.Blocked.{agree}
+use Rattle.links.specs.Head.{item_of, head}
+use Rattle.links.specs.Column.{at}
+use Rattle.links.specs.Plan.{EntryOf, Header, start}
+use Rattle.links.specs.Ground.{Ground, Tidy, taken, Fresh, Holds}
+use Rattle.links.specs.Row.{walked}
+use Rattle.links.specs.Taking.{rival_at, rivals, testing}
+use Rattle.links.proofs.Stores.{not_so}
+use Rattle.links.proofs.Plans.{entry-till}
+use Rattle.links.proofs.Rows.{walk_begins, walked_none, full-walked}
+use Rattle.links.proofs.Gathering.{gather_none}
+use Rattle.links.proofs.Descending.{on-entry, reach, reach-past, reach-at, left, step_less}
+use Rattle.blocking.specs.Undo.{after}
+use Rattle.blocking.specs.Forward.{Stage, Alive, out_at, ground_at, Outer, Item, rivals_to, ground_to, Middle, Inner}
+use Rattle.blocking.proofs.After.{after-tidy, after_more}
+use Rattle.blocking.proofs.Columns.{rival→, rival←, column-same, down-on, down-col, down-gathered}
+use Rattle.blocking.proofs.Testing.{testing-more}
+use Rattle.blocking.proofs.Stages.{stage-more, item-entry, ground-tidy, rivals-fresh}
+
+-- An item that was tested is behind the walk.
+module _ {h : Ground} {tints marks : List ℕ} {r s np q : ℕ} (m : Item h tints marks r s np q) where
+  t : Tidy h
+  t = m.test.tested.tidy
+
+  item-some : item_of (head h.heads q) ≢ 0
+  item-some z = omega (arith, sym z ∙ ap item_of m.full, (t.planned.entry q (item-entry m)).above)
+
+  walked_more : walked h r (q + 1) ≡ walked h r q ++ (q ∷ [])
+  walked_more = full-walked h t r m.test.tested.entry q (record { from = m.from; till = omega (arith, m.till) }) m.other item-some
+
+  out-more : out_at h r (q + 1) ≡ out_at h r q ++ rivals (ground_at h r q) q
+  out-more = ap (testing h) walked_more ∙ testing-more h (walked h r q) q
+
+  pub next-item : (heads : List ℤ) (up down : List ℕ) → Alive h marks r np heads → Holds (taken (ground_at h r q) (rivals (ground_at h r q) q)) heads up down → Outer h tints marks r s np (q + 1) heads up down
+  next-item heads up down a l = record {
+    test = m.test;
+    from = omega (arith, m.from);
+    till = omega (arith, m.till);
+    stage = subst (λ (qs : List ℕ). Stage h qs (out_at h r (q + 1))) (sym walked_more) (subst (λ (xs : List ℕ). Stage h (walked h r q ++ (q ∷ [])) xs) (sym out-more) (stage-more m));
+    alive = a;
+    holds = subst (λ (G : Ground). Holds G heads up down) (after_more h (out_at h r q) (rivals (ground_at h r q) q) ∙ ap (taken h) (sym out-more)) l;
+  }
+
+-- Node p of q's column was dealt with, rival or not, and the walk has not gone on yet.
+pub record Passed (h : Ground) (tints marks : List ℕ) (r s np q p : ℕ) (heads : List ℤ) (up down : List ℕ) : Type 0 where
+  pub item : Item h tints marks r s np q
+  pub behind : s ≤ p
+  pub on : (ground_at h r q).on p ≡ true
+  pub col : h.plan.col p ≡ h.plan.col q
+  pub alive : Alive h marks r np heads
+  pub holds : Holds (taken (ground_at h r q) (rivals_to h r q (p + 1))) heads up down
+
+module _ {h : Ground} {tints marks : List ℕ} {r s np : ℕ} {heads : List ℤ} {up down : List ℕ} {q p : ℕ} (m : Middle h tints marks r s np q p heads up down) where
+  -- back at the header, the whole column was walked
+  pub leave : p < s → Outer h tints marks r s np (q + 1) heads up down
+  leave l =
+      next-item m.item heads up down m.alive
+      (subst (λ (k : ℕ). Holds (taken (ground_at h r q) (rivals_to h r q k)) heads up down) (reach-past h.plan p (omega (arith, m.item.test.starts))) m.holds)
+
+  module _ (b : s ≤ p) where
+    g-tidy : Tidy (ground_at h r q)
+    g-tidy = ground-tidy m.item
+
+    behind : start h.plan ≤ p
+    behind = omega (arith, m.item.test.starts)
+
+    pub middle-entry : EntryOf h.plan p
+    middle-entry = on-entry (ground_at h r q) g-tidy p m.on behind
+
+    pub middle-tint : p < length tints
+    middle-tint = omega (arith, entry-till h.plan m.item.test.tested.tidy.planned p middle-entry, m.item.test.tinted.room)
+
+    pub middle-fits : p + 1 < 1048577
+    middle-fits = omega (arith, entry-till h.plan m.item.test.tested.tidy.planned p middle-entry, m.item.test.tested.tidy.planned.small)
+
+    held-here : Holds (taken (ground_at h r q) (rivals_to h r q p)) heads up down
+    held-here = subst (λ (k : ℕ). Holds (taken (ground_at h r q) (rivals_to h r q k)) heads up down) (reach-at h.plan p behind) m.holds
+
+    -- the colours as the lists have them
+    same-colours : agree (at tints q) (at tints p) ≡ agree (h.plan.tint q) (h.plan.tint p)
+    same-colours = rw (m.item.test.tinted.tint q (item-entry m.item), m.item.test.tinted.tint p middle-entry)
+
+    -- a rival: its others are walked
+    pub round : not (agree (at tints q) (at tints p)) ≡ true → Inner h tints marks r s np q p (p + 1) heads up down
+    round c =
+        let w = walk_begins (ground_to h r q p) to-tidy p middle-entry in
+        let n = walked_none (ground_to h r q p) to-tidy p middle-entry in
+        record {
+          item = m.item;
+          rival = rival← (ground_at h r q) (h.plan.col q) (h.plan.tint q) p m.on m.col behind (sym same-colours ∙ not-true (agree (at tints q) (at tints p)) c);
+          from = w.from;
+          till = w.till;
+          fresh = subst (λ (xs : List ℕ). Fresh (ground_to h r q p) xs) (sym n) tt;
+          alive = m.alive;
+          holds = subst (λ (xs : List ℕ). Holds (taken (ground_to h r q p) xs) heads up down) (sym n) (record { heads-are = held-here.heads-are; up-are = held-here.up-are; down-are = held-here.down-are });
+        }
+      where
+        to-tidy : Tidy (ground_to h r q p)
+        to-tidy = after-tidy (ground_at h r q) (rivals_to h r q p) g-tidy (rivals-fresh m.item p)
+
+    -- no rival: nothing is taken here
+    pub spare : not (agree (at tints q) (at tints p)) ≡ false → Passed h tints marks r s np q p heads up down
+    spare c = record {
+      item = m.item;
+      behind = b;
+      on = m.on;
+      col = m.col;
+      alive = m.alive;
+      holds = subst (λ (xs : List ℕ). Holds (taken (ground_at h r q) xs) heads up down)
+          (sym (gather_none (rival_at (ground_at h r q) (h.plan.col q) (h.plan.tint q)) (ground_at h r q) p
+          (not_so (rival_at (ground_at h r q) (h.plan.col q) (h.plan.tint q) p) (λ o. false≢true (sym (rival→ (ground_at h r q) (h.plan.col q) (h.plan.tint q) p o).3 ∙ sym same-colours ∙ not-false (agree (at tints q) (at tints p)) c)))))
+          held-here;
+    }
+
+-- The step down from there.
+module _ {h : Ground} {tints marks : List ℕ} {r s np q p : ℕ} {heads : List ℤ} {up down : List ℕ} (m : Passed h tints marks r s np q p heads up down) where
+  abbrev gone : List ℕ
+  gone = rivals_to h r q (p + 1)
+
+  passed-start : start h.plan ≤ p
+  passed-start = omega (arith, m.behind, m.item.test.starts)
+
+  q-tidy : Tidy (ground_at h r q)
+  q-tidy = ground-tidy m.item
+
+  p-tidy : Tidy (after (ground_at h r q) gone)
+  p-tidy = after-tidy (ground_at h r q) gone q-tidy (rivals-fresh m.item (p + 1))
+
+  still : (y : ℕ) → h.plan.col y ≡ h.plan.col q → (taken (ground_at h r q) gone).on y ≡ (ground_at h r q).on y
+  still = column-same (ground_at h r q) q-tidy (h.plan.col q) (h.plan.tint q) (p + 1)
+
+  hd : Header h.plan (h.plan.col q)
+  hd = m.item.test.tested.tidy.planned.entry q (item-entry m.item)
+
+  pub down-in : p < length down
+  down-in = rw m.holds.down-are (omega (arith, entry-till h.plan m.item.test.tested.tidy.planned p (on-entry (ground_at h r q) q-tidy p m.on passed-start), p-tidy.ring.downs))
+
+  gathered : rivals_to h r q (reach h.plan (at down p)) ≡ gone
+  gathered = rw m.holds.down-are (down-gathered (ground_at h r q) q-tidy (h.plan.col q) (h.plan.tint q) hd gone p-tidy still p m.on m.col)
+
+  pub step_down : Middle h tints marks r s np q (at down p) heads up down
+  step_down = record {
+    item = m.item;
+    on = rw m.holds.down-are (down-on (ground_at h r q) q-tidy (h.plan.col q) (h.plan.tint q) hd gone p-tidy still p m.on m.col);
+    col = rw m.holds.down-are (down-col (ground_at h r q) q-tidy (h.plan.col q) (h.plan.tint q) hd gone p-tidy still p m.on m.col);
+    alive = m.alive;
+    holds = subst (λ (xs : List ℕ). Holds (taken (ground_at h r q) xs) heads up down) (sym gathered) m.holds;
+  }
+
+  room : h.plan.N ≤ length heads
+  room = rw m.holds.heads-are p-tidy.heads-in
+
+  pub step_left : (n : ℕ) → length heads ≡ n → left n s (at down p) < left n s p
+  step_left n c =
+      rw (m.holds.down-are, m.item.test.starts)
+      (step_less (after (ground_at h r q) gone) p-tidy (h.plan.col q) hd p (record { on = still p m.col ∙ m.on; col = m.col }) n (omega (arith, c, room)) passed-start)

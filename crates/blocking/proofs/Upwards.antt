@@ -1,0 +1,193 @@
+-- Undoing the walk down one column, step by step. Assumes nothing.
+use Prim.Native.Nat.{ℕ, ◌+◌, ◌-◌, ◌<◌, ◌≤◌}
+use native.Mathlib.Omega.{arith}
+use mathlib.Core.Path.{◌≡◌, refl, ◌∙◌, ap, sym, subst}
+use mathlib.Core.Bool.{Bool, true, false, not, false≢true}
+use mathlib.Core.List.{List, ◌++◌}
+use borrow.Author.Tests.{not-true, not-false}
+use lib.ListN.{length}
+use lib.IntN.{ℤ}
+use Rattle.rules.specs.Blocked.{agree}
+use Rattle.links.specs.Column.{at}
+use Rattle.links.specs.Plan.{start, EntryOf, Header}
+use Rattle.links.specs.Ground.{Ground, Tidy, taken, Fresh, Holds}
+use Rattle.links.specs.Row.{walked, others}
+use Rattle.links.specs.Shown.{Tinted}
+use Rattle.links.specs.Taking.{gather_to, rival_at}
+use Rattle.links.proofs.Stores.{not_so}
+use Rattle.links.proofs.Plans.{header-before, entry-till}
+use Rattle.links.proofs.Grounds.{fresh-front}
+use Rattle.links.proofs.Rows.{back-begins, back-begun}
+use Rattle.links.proofs.Gathering.{gather-one, gather_none}
+use Rattle.links.proofs.Descending.{on-entry}
+use Rattle.blocking.specs.Undo.{after, Half, rivals_up_to, Below}
+use Rattle.blocking.proofs.After.{after-tidy, after_more, after-others, fresh-after, held}
+use Rattle.blocking.proofs.Columns.{rival→, rival←, column-same, none-gathered, up-col, up-on, up-falls, up-gathered, last-gathered}
+
+-- A walk up a column has put p's option back, and not gone on yet: the rivals above p are out still.
+pub record Above (g : Ground) (tints : List ℕ) (p x s : ℕ) (heads : List ℤ) (up down : List ℕ) : Type 0 where
+  pub tidy : Tidy g
+  pub tinted : Tinted g.plan tints
+  pub starts : s ≡ start g.plan
+  pub on : g.on p ≡ true
+  pub entry : EntryOf g.plan p
+  pub fresh : Fresh g (gather_to (rival_at g (g.plan.col p) x) g p)
+  pub holds : Holds (taken g (gather_to (rival_at g (g.plan.col p) x) g p)) heads up down
+
+-- At an entry p of a column of g, of which the rivals above p are out: after p itself is put back, the step up.
+module _ {g : Ground} {tints : List ℕ} {p x s : ℕ} {heads : List ℤ} {up down : List ℕ} (m : Below g tints p x s heads up down) where
+  abbrev rival_here : ℕ → Bool
+  rival_here = rival_at g (g.plan.col p) x
+
+  pub below-done : p < s → Holds g heads up down
+  below-done h = subst (λ (xs : List ℕ). Holds (taken g xs) heads up down) (none-gathered g m.tidy (g.plan.col p) x (p + 1) (omega (arith, m.starts))) m.holds
+
+  module _ (h : s ≤ p) where
+    pub below-entry : EntryOf g.plan p
+    below-entry = on-entry g m.tidy p m.on (omega (arith, m.starts))
+
+    pub below-tint : p < length tints
+    below-tint = omega (arith, entry-till g.plan m.tidy.planned p below-entry, m.tinted.room)
+
+    -- p clashes: the walk round it is undone
+    module _ (b : not (agree x (at tints p)) ≡ true) where
+      chosen : rival_here p ≡ true
+      chosen = rival← g (g.plan.col p) x p m.on refl (omega (arith, m.starts)) (ap (agree x) (sym (m.tinted.tint p below-entry)) ∙ not-true (agree x (at tints p)) b)
+
+      split : rivals_up_to g x p ≡ gather_to rival_here g p ++ others g p
+      split = gather-one rival_here g p chosen
+
+      fresh-both : Fresh g (gather_to rival_here g p ++ others g p)
+      fresh-both = subst (λ (xs : List ℕ). Fresh g xs) split m.fresh
+
+      fresh-before : Fresh g (gather_to rival_here g p)
+      fresh-before = fresh-front g (gather_to rival_here g p) (others g p) fresh-both
+
+      abbrev old : Ground
+      old = after g (gather_to rival_here g p)
+
+      all_others : others g p ≡ walked old p (p - 1 + 1)
+      unfolding others
+      all_others = sym (after-others g (gather_to rival_here g p) m.tidy fresh-before p below-entry) ∙ ap (walked old p) (sym (back-begun g m.tidy p below-entry))
+
+      pub below_half : Half (after g (gather_to (rival_at g (g.plan.col p) x) g p)) p (p - 1) heads up down
+      below_half =
+          let b = back-begins g m.tidy p below-entry in
+          record {
+            tidy = after-tidy g (gather_to rival_here g p) m.tidy fresh-before;
+            entry = below-entry;
+            from = b.from;
+            till = b.till;
+            fresh = subst (λ (xs : List ℕ). Fresh old xs) all_others (fresh-after g (gather_to rival_here g p) (others g p) fresh-both);
+            holds = subst (λ (xs : List ℕ). Holds (taken old xs) heads up down) all_others
+                (subst (λ (G : Ground). Holds G heads up down) (ap (taken g) split ∙ sym (after_more g (gather_to rival_here g p) (others g p))) m.holds);
+          }
+
+      -- p's option is whole again
+      pub clash-above : {heads' : List ℤ} {up' down' : List ℕ} → Holds (after g (gather_to (rival_at g (g.plan.col p) x) g p)) heads' up' down'
+          → Above g tints p x s heads' up' down'
+      clash-above l = record {
+        tidy = m.tidy;
+        tinted = m.tinted;
+        starts = m.starts;
+        on = m.on;
+        entry = below-entry;
+        fresh = fresh-before;
+        holds = held g (gather_to rival_here g p) l;
+      }
+
+    -- p agrees: nothing was taken there
+    module _ (b : not (agree x (at tints p)) ≡ false) where
+      agrees : rival_here p ≡ false
+      agrees = not_so (rival_here p) (λ e. false≢true (sym (rival→ g (g.plan.col p) x p e).3 ∙ ap (agree x) (sym (m.tinted.tint p below-entry)) ∙ not-false (agree x (at tints p)) b))
+
+      pub agree-above : Above g tints p x s heads up down
+      agree-above = record {
+        tidy = m.tidy;
+        tinted = m.tinted;
+        starts = m.starts;
+        on = m.on;
+        entry = below-entry;
+        fresh = subst (λ (xs : List ℕ). Fresh g xs) (gather_none rival_here g p agrees) m.fresh;
+        holds = subst (λ (xs : List ℕ). Holds (taken g xs) heads up down) (gather_none rival_here g p agrees) m.holds;
+      }
+
+-- The step up from there.
+module _ {g : Ground} {tints : List ℕ} {p x s : ℕ} {heads : List ℤ} {up down : List ℕ} (m : Above g tints p x s heads up down) where
+  abbrev above : List ℕ
+  above = gather_to (rival_at g (g.plan.col p) x) g p
+
+  now-tidy : Tidy (after g above)
+  now-tidy = after-tidy g above m.tidy m.fresh
+
+  header : Header g.plan (g.plan.col p)
+  header = m.tidy.planned.entry p m.entry
+
+  still : (y : ℕ) → g.plan.col y ≡ g.plan.col p → (taken g above).on y ≡ g.on y
+  still = column-same g m.tidy (g.plan.col p) x p
+
+  pub link-in : p < length up
+  link-in = rw m.holds.up-are (omega (arith, entry-till g.plan m.tidy.planned p m.entry, now-tidy.ring.ups))
+
+  pub link-falls : {u : ℕ} → u ≡ at up p → u < p
+  link-falls a = rw (a, m.holds.up-are) (up-falls g m.tidy (g.plan.col p) x header above now-tidy still p m.on refl m.entry)
+
+  same-list : above ≡ rivals_up_to g x (at up p)
+  same-list =
+      up-gathered g m.tidy (g.plan.col p) x header above now-tidy still p m.on refl m.entry
+      ∙ ap (λ (u : List ℕ). gather_to (rival_at g (g.plan.col p) x) g (at u p + 1)) (sym m.holds.up-are)
+      ∙ ap (λ (i : ℕ). gather_to (rival_at g i x) g (at up p + 1)) (sym (ap (λ (u : List ℕ). g.plan.col (at u p)) m.holds.up-are ∙ up-col g m.tidy (g.plan.col p) x header above now-tidy still p m.on refl))
+
+  stepped : Below g tints (at up p) x s heads up down
+  stepped = record {
+    tidy = m.tidy;
+    tinted = m.tinted;
+    starts = m.starts;
+    on = rw m.holds.up-are (up-on g m.tidy (g.plan.col p) x header above now-tidy still p m.on refl);
+    fresh = subst (λ (xs : List ℕ). Fresh g xs) same-list m.fresh;
+    holds = subst (λ (xs : List ℕ). Holds (taken g xs) heads up down) same-list m.holds;
+  }
+
+  pub step-up : {u : ℕ} → u ≡ at up p → Below g tints u x s heads up down
+  step-up a = subst (λ (j : ℕ). Below g tints j x s heads up down) (sym a) stepped
+
+-- From the header i the link up leads to the lowest node of a column of which all rivals are out.
+module _ (g : Ground) (tints : List ℕ) (i x s : ℕ) (t : Tidy g) (head_of : Header g.plan i) (o : g.on i ≡ true) (f : Fresh g (gather_to (rival_at g i x) g g.plan.N)) (heads : List ℤ) (up down : List ℕ)
+    (l : Holds (taken g (gather_to (rival_at g i x) g g.plan.N)) heads up down) where
+  abbrev all : List ℕ
+  all = gather_to (rival_at g i x) g g.plan.N
+
+  all-tidy : Tidy (after g all)
+  all-tidy = after-tidy g all t f
+
+  col-is : g.plan.col i ≡ i
+  col-is = t.planned.header i head_of
+
+  all-still : (y : ℕ) → g.plan.col y ≡ i → (taken g all).on y ≡ g.on y
+  all-still = column-same g t i x g.plan.N
+
+  lowest-on : g.on (at up i) ≡ true
+  lowest-on = rw l.up-are (up-on g t i x head_of all all-tidy all-still i o col-is)
+
+  lowest-col : g.plan.col (at up i) ≡ i
+  lowest-col = rw l.up-are (up-col g t i x head_of all all-tidy all-still i o col-is)
+
+  -- it is the last: below it is the header again
+  leads-back : at (taken g all).down (at up i) ≡ i
+  leads-back = rw l.up-are (all-tidy.ring.tied i (all-still i col-is ∙ o)).above_down
+
+  whole-column : all ≡ rivals_up_to g x (at up i)
+  whole-column = last-gathered g t i x head_of all all-tidy all-still (at up i) lowest-on lowest-col leads-back ∙ ap (λ (j : ℕ). gather_to (rival_at g j x) g (at up i + 1)) (sym lowest-col)
+
+  pub header-in : i < length up
+  header-in = rw l.up-are (omega (arith, header-before g.plan t.planned i head_of, t.planned.room, all-tidy.ring.ups))
+
+  pub from-header : Tinted g.plan tints → s ≡ start g.plan → Below g tints (at up i) x s heads up down
+  from-header w q = record {
+    tidy = t;
+    tinted = w;
+    starts = q;
+    on = lowest-on;
+    fresh = subst (λ (xs : List ℕ). Fresh g xs) whole-column f;
+    holds = subst (λ (xs : List ℕ). Holds (taken g xs) heads up down) whole-column l;
+  }

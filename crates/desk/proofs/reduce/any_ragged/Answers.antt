@@ -1,5 +1,0 @@
--- `desk::reduce::any_ragged` meets its contract: the lengths are those of the eight lists. Assumes nothing.
-use Rattle.desk.proofs.reduce.any_ragged.Goals as goal
-
-pub returns : goal.returns
-returns c = c.any_ragged.ensures

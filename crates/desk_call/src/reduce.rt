@@ -1,0 +1,77 @@
+// The desk's call over bytes.
+ghost use Rattle.std.specs.Prelude.{◌≡◌, ◌≤◌, false, length};
+ghost use Rattle.rules.specs.Lent.{SameResults, results_in};
+ghost use Rattle.rules.specs.Paper.{paper};
+ghost use Rattle.words.specs.Bytes.{numbers_of};
+ghost use Rattle.desk_call.specs.Desk.{any_ragged, handed_bytes, serving, served, desk_outcome};
+
+use crate::thin::{desk_figures, thin};
+use rules::answer::Answer;
+use rules::lent::{Given, Results};
+use rules::problem::Problem;
+use words::{count, read_words};
+
+// Some byte list has a length that is no multiple of four.
+pub fn any_ragged(given: &Given<u8>, results: &Results<u8>) -> bool
+    ensures { result ≡ any_ragged given.now.items.now given.now.colours.now given.now.ends.now (results_in results.now) }
+{
+    words::any_ragged(&[
+        given.items.len(),
+        given.colours.len(),
+        given.ends.len(),
+        results.kept.len(),
+        results.ends.len(),
+        results.numbers.len(),
+        results.items.len(),
+        results.colours.len(),
+    ])
+}
+
+// Reads the three lists of the problem, whose counts are within the figures.
+pub fn read(given: &Given<u8>, results: &mut Results<u8>) -> Answer
+    requires { (length (numbers_of given.now.items.now) ≤ 1024) × (length (numbers_of given.now.colours.now) ≤ 1024) × (length (numbers_of given.now.ends.now) ≤ 256) }
+    ensures lists { SameResults results.old results.new }
+    ensures served { serving (paper result) (results_in results.new)
+        ≡ served false (handed_bytes given.now.np given.now.ns given.now.cap given.now.items.now given.now.colours.now given.now.ends.now (results_in results.old))
+        (results_in results.old) }
+{
+    // fixed memory: lists as long as the figures allow, read as far as they are filled
+    let mut items = [0u32; 1024];
+    let mut colours = [0u32; 1024];
+    let mut ends = [0u32; 256];
+    read_words(given.items, &mut items);
+    read_words(given.colours, &mut colours);
+    read_words(given.ends, &mut ends);
+    let numbers = Given {
+        np: given.np,
+        ns: given.ns,
+        cap: given.cap,
+        items: &items[..count(given.items)],
+        colours: &colours[..count(given.colours)],
+        ends: &ends[..count(given.ends)],
+    };
+    thin(&numbers, results)
+}
+
+// Thins out a problem handed in as bytes. Counts are checked before anything is read: checks 10 to 15, with 14 for a ragged list in its turn.
+pub fn reduce(given: &Given<u8>, results: &mut Results<u8>) -> Answer
+    ensures lists { SameResults results.old results.new }
+    ensures served { serving (paper result) (results_in results.new)
+        ≡ desk_outcome given.now.np given.now.ns given.now.cap given.now.items.now given.now.colours.now given.now.ends.now (results_in results.old) }
+{
+    let ragged = any_ragged(given, results);
+    let entries = count(given.items);
+    let differ = ragged | (entries != count(given.colours));
+    let counts = Problem::within(
+        desk_figures(),
+        given.np,
+        given.ns,
+        count(given.ends),
+        entries,
+        differ,
+    );
+    if let Err(refused) = counts {
+        return Answer::Refused(refused);
+    }
+    read(given, results)
+}

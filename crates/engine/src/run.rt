@@ -1,0 +1,42 @@
+// What the rounds find of a problem.
+ghost use Rattle.std.specs.Prelude.{ℕ};
+ghost use Rattle.rules.specs.Problem.{Figures, problem_of};
+ghost use Rattle.rules.specs.Rounds.{reduce as reduce_of};
+ghost use Rattle.links.specs.Nodes.{in_nodes, SameNodes};
+ghost use Rattle.building.specs.Layout.{plan_of};
+ghost use Rattle.building.specs.Build.{Buildable};
+ghost use Rattle.preproc.specs.Standing.{Ended};
+
+use building::init_links::init_links;
+use links::nodes::Nodes;
+use preproc::rounds::{Done, Infeasible, rounds, uncovered};
+use rules::answer::Cause;
+use rules::lent::Given;
+
+// Builds the nodes; a primary item in no option is cause 1, in round 0, whatever the cap; and else the rounds run.
+pub fn run(
+    nodes: &mut Nodes,
+    tints: &mut [u32],
+    marks: &mut [u32],
+    given: &Given<u32>,
+) -> Result<Done, Infeasible>
+    requires { (f : Figures) × (ns : ℕ) × in_nodes (Buildable f nodes.old.np ns nodes.old.n given.now.items.now given.now.colours.now given.now.ends.now)
+        nodes.old tints.old marks.old }
+    ensures nodes { SameNodes nodes.old nodes.new }
+    ensures found { (f : Figures) (ns : ℕ)
+        → in_nodes (Buildable f nodes.old.np ns nodes.old.n given.now.items.now given.now.colours.now given.now.ends.now)
+        nodes.old tints.old marks.old
+        → in_nodes (Ended (plan_of (problem_of nodes.old.np ns given.now.items.now given.now.colours.now given.now.ends.now))
+        (reduce_of (problem_of nodes.old.np ns given.now.items.now given.now.colours.now given.now.ends.now) given.now.cap) result)
+        nodes.new tints.new marks.new }
+{
+    init_links(nodes, tints, marks, given);
+    if let Some(column) = uncovered(nodes) {
+        return Err(Infeasible {
+            column,
+            cause: Cause::Start,
+            round: 0,
+        });
+    }
+    rounds(nodes, tints, marks, given.cap)
+}

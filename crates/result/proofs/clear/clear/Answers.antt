@@ -1,7 +1,0 @@
--- `result::clear::clear` meets its contract: at place i the elements before i are zeros, and the others as they were. Assumes nothing.
-use Rattle.std.proofs.Common.{arith}
-use Rattle.result.proofs.Filling.{remade}
-use Rattle.result.proofs.clear.clear.Goals as goal
-
-pub loop-i-preserved : goal.loop-i-preserved
-loop-i-preserved g c = rw c.loop-i.invariant (remade (λ x. c.args.zero) c.args.list.now c.loop-i.i c.args.zero (omega arith))

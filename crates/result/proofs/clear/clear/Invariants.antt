@@ -1,7 +1,0 @@
--- The loop of `clear`: at place i the elements before i are zeros, and the others as they were.
-use Rattle.std.proofs.Common.{◌≡◌, map, take}
-use Rattle.rules.specs.Lists.{written}
-use Rattle.result.proofs.clear.clear.Given as goal
-
-abbrev pub invariant-loop-i : goal.invariant-loop-i
-invariant-loop-i g l = l.list ≡ written (map (λ x. l.zero) (take l.i l.initial.list)) l.initial.list

@@ -1,0 +1,2 @@
+pub mod Remade
+pub mod Clearing
