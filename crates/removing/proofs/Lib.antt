@@ -11,5 +11,5 @@ pub mod Alike
 pub mod Leaving
 pub mod Holding
 pub mod Staying
-pub mod RemovalAt
+pub mod Going
 pub mod Removes
