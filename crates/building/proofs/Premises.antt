@@ -6,7 +6,7 @@ use Rattle.rules.specs.Problem.{Figures}
 use Rattle.rules.specs.Rooms.{Room, Handed}
 use Rattle.rules.specs.Checks.{short_room, refusal_of}
 use Rattle.theorems.proofs.Words.Tests.{T-nor}
-use Rattle.theorems.proofs.Checks.Accept.{Passed, passed, passed-accepted}
+use Rattle.theorems.proofs.Checks.Accept.{ChecksPassed, passed, passed-accepted}
 use Rattle.building.specs.Build.{Buildable}
 
 -- the room that check 17 leaves
@@ -38,7 +38,7 @@ enough n E M r t =
     }
 
 module _ (f : Figures) (room : f.items + 2 + f.entries + f.options < node_bound) (h : Handed) where
-  pub passed-buildable : Passed f h
+  pub passed-buildable : ChecksPassed f h
       → Buildable f h.np h.ns (h.np + h.ns) h.items h.colours h.ends h.room.heads h.room.up h.room.down h.room.tints h.room.marks
   passed-buildable P =
       let r = enough (h.np + h.ns) (length h.items) (length h.ends) h.room P.room in

@@ -9,7 +9,7 @@ use Rattle.rules.specs.Problem.{Entry, Figures, entries_of, cut}
 use Rattle.rules.specs.Rooms.{Handed}
 use Rattle.rules.specs.Checks.{check_options, refusal_of}
 use Rattle.rules.specs.SecondRun.{Roomy}
-use Rattle.theorems.proofs.Checks.Accept.{Passes, Passed, options→, options←, passed, not-refused}
+use Rattle.theorems.proofs.Checks.Accept.{Passes, ChecksPassed, options→, options←, passed, not-refused}
 
 -- Each figure is at most the other's.
 pub record FiguresWithin (f g : Figures) : Type 0 where
@@ -38,7 +38,7 @@ more-colours np n c d l seen o P =
 pub figures-grow : (f g : Figures) → FiguresWithin f g → (ragged : Bool) (h h' : Handed) → HandedAlike h h' → Roomy h' → refusal_of f ragged h ≡ none → refusal_of g false h' ≡ none
 figures-grow f g W ragged h h' S R e = not-refused g h' (grown (passed f ragged h e))
   where
-    grown : Passed f h → Passed g h'
+    grown : ChecksPassed f h → ChecksPassed g h'
     grown P =
         record {
           some-primary = rw (← S.np) P.some-primary;

@@ -22,7 +22,7 @@ use Rattle.rules.specs.Lent.{handed_in}
 use Rattle.rules.specs.declared.lent.Given.{Given}
 use Rattle.rules.specs.declared.answer.Answer.{Answer}
 use Rattle.rules.specs.declared.answer.Answer.TheVariants.{Reduced, Infeasible}
-use Rattle.theorems.proofs.Checks.Accept.{Passed, passed}
+use Rattle.theorems.proofs.Checks.Accept.{ChecksPassed, passed}
 use Rattle.theorems.proofs.Checks.Paper.{paper-one, infeasible-one}
 use Rattle.theorems.proofs.Answers.OneOutcome.{outcome-refused, outcome-found}
 use Rattle.theorems.proofs.Answers.Bounds.{Within, ReducedWithin, bounds}
@@ -80,7 +80,7 @@ module _ (given : Given ℕ) (bytes : Results) (e : refusal_of desk_figures fals
   abbrev h' : Handed
   h' = handed_in given desk_room blank
 
-  P : Passed desk_figures h
+  P : ChecksPassed desk_figures h
   P = passed desk_figures false h e
 
   -- the core takes it, in the desk's room and with the desk's result lists

@@ -17,7 +17,7 @@ use Rattle.rules.specs.Result.{results_of}
 use Rattle.rules.specs.Outcome.{cleared, fronts, said_of, concluded}
 use Rattle.rules.specs.Paper.{Said, said_infeasible}
 use Rattle.theorems.proofs.Words.Tests.{T-nor}
-use Rattle.theorems.proofs.Checks.Accept.{Passed, passed}
+use Rattle.theorems.proofs.Checks.Accept.{ChecksPassed, passed}
 use Rattle.theorems.proofs.Answers.Causes.{cause-range}
 use Rattle.theorems.proofs.Answers.Bounds.{ReducedWithin, InfeasibleWithin, Within, bounds}
 use Rattle.building.specs.Layout.{plan_for, plan_of}
@@ -85,7 +85,7 @@ module _ {h : Handed} (t : TakenIn h) where
   abbrev a : Problem
   a = problem_of h.np h.ns h.items h.colours h.ends
 
-  P : Passed figures h
+  P : ChecksPassed figures h
   P = passed figures false h e
 
   pub call-small : h.np + h.ns < node_bound

@@ -15,7 +15,7 @@ use Rattle.rules.specs.Rounds.{Finding, reduced, infeasible, reduce}
 use Rattle.rules.specs.Result.{kept_items, primaries_of, secondaries_of, kept_options, results_of}
 use Rattle.rules.specs.Promises.{Accepted, RoundsWithin, SoundResult}
 use Rattle.theorems.proofs.Checks.Cutting.{length-entries_of, length_cut, cut-whole}
-use Rattle.theorems.proofs.Checks.Accept.{Passed, passed, passed-accepted}
+use Rattle.theorems.proofs.Checks.Accept.{ChecksPassed, passed, passed-accepted}
 use Rattle.theorems.proofs.Steps.Soundness.{sound}
 use Rattle.theorems.proofs.Settled.InTime.{rounds-within}
 use Rattle.theorems.proofs.Answers.Parts.{PartOf, part_of}
@@ -62,7 +62,7 @@ bounds f ragged h e = go (reduce a h.cap) (sound f a A h.cap) (part_of a h.cap) 
     a : Problem
     a = problem_of h.np h.ns h.items h.colours h.ends
 
-    P : Passed f h
+    P : ChecksPassed f h
     P = passed f ragged h e
 
     A : Accepted f a

@@ -10,11 +10,11 @@ use Rattle.rules.specs.Checks.{check16, refusal_of}
 use Rattle.rules.specs.Promises.{Accepted}
 use Rattle.rules.specs.SecondRun.{Roomy}
 use Rattle.theorems.proofs.Checks.Cutting.{length-entries_of, length_cut, cut-whole}
-use Rattle.theorems.proofs.Checks.Accept.{Passed, not-refused, accepts}
+use Rattle.theorems.proofs.Checks.Accept.{ChecksPassed, not-refused, accepts}
 
 module _ (f : Figures) (h : Handed) (A : Accepted f (problem_of h.np h.ns h.items h.colours h.ends))
     (lengths : length h.items ≡ length h.colours) (ends : check16 (length h.items) h.ends ≡ none) (R : Roomy h) where
-  accepted-passes : Passed f h
+  accepted-passes : ChecksPassed f h
   unfolding problem_of
   accepted-passes = record {
     some-primary = A.some-primary;
