@@ -47,6 +47,7 @@ uncoloured = record {
 pub not-agreed : Cover uncoloured (0 ∷ 1 ∷ []) → ⊥
 unfolding Cover
 not-agreed C =
-    let a = C.agreed 0 1 (here refl) (next (here refl)) zero-not-one (record { item = 2; colour = 0 }) (record { item = 2; colour = 0 }) (next (here refl)) (next (here refl)) refl (omega arith) in
+    let a = C.agreed 0 1 (here refl) (next (here refl)) zero-not-one (record { item = 2; colour = 0 }) (record { item = 2; colour = 0 }) (next (here refl))
+    (next (here refl)) refl (omega arith) in
     let b = a.1 in
     absurd (omega arith)

@@ -19,7 +19,8 @@ use Rattle.rules.specs.Paper.{Said, said_infeasible, said_refused, cause_number,
 -- Each number is that of one check, and of one cause
 
 abbrev check_of : ℕ → Check
-check_of n = get_or (NoPrimary ∷ TooManyItems ∷ NoOption ∷ TooManyOptions ∷ Uneven ∷ TooManyEntries ∷ WrongEnd ∷ ShortRoom ∷ ShortResult ∷ NoSuchItem ∷ ColourTooHigh ∷ ColouredPrimary ∷ ItemTwice ∷ []) (n - 10) NoPrimary
+check_of n = get_or (NoPrimary ∷ TooManyItems ∷ NoOption ∷ TooManyOptions ∷ Uneven ∷ TooManyEntries ∷ WrongEnd ∷ ShortRoom ∷ ShortResult ∷ NoSuchItem ∷ ColourTooHigh
+    ∷ ColouredPrimary ∷ ItemTwice ∷ []) (n - 10) NoPrimary
 
 check-back : (c : Check) → check_of (number_of c) ≡ c
 check-back NoPrimary = refl
