@@ -6,7 +6,7 @@ use Rattle.rules.specs.declared.refusal.Refusal.{Refusal}
 use Rattle.rules.specs.Problem.{Figures, figures, problem_of}
 use Rattle.rules.specs.Rooms.{Handed}
 use Rattle.rules.specs.Rounds.{reduce}
-use Rattle.rules.specs.Refusals.{number_of}
+use Rattle.rules.specs.Refusals.{as_paper}
 use Rattle.rules.specs.Paper.{said_refused}
 use Rattle.rules.specs.Outcome.{Outcome, concluded, outcome_of}
 use Rattle.theorems.proofs.Answers.OneOutcome.{refused-nothing-written, outcome-found}
@@ -17,7 +17,7 @@ use Rattle.checking.proofs.Telling.{Told, refuses, passes}
 
 module _ (h : Handed) (c : Result (Unit {0}) Refusal) {f : Figures} {lent : Lengths} (told : Told f false h lent c) (same : f ≡ figures) (lengths : Lent lent h.room h.results) where
   -- a refusal writes nothing
-  pub refused : {r : Refusal} → c ≡ Err r → outcome (said_refused (number_of r.check) r.place) h.room h.results ≡ outcome_of h
+  pub refused : {r : Refusal} → c ≡ Err r → outcome (said_refused (as_paper r)) h.room h.results ≡ outcome_of h
   refused k = sym (refused-nothing-written h _ (refuses figures false h c told same lengths k))
 
   -- all else is what the rounds find

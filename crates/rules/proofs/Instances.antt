@@ -18,7 +18,7 @@ use Rattle.rules.specs.Outcome.{refused_or}
 use Rattle.rules.specs.Cover.{Cover}
 
 -- A refusal writes nothing anywhere.
-pub refused-untouched : (h : Handed) (r : Refusal) (x : Finding) → refused_or h (some r) x ≡ record { said = said_refused r.number r.place; room = h.room; results = h.results }
+pub refused-untouched : (h : Handed) (r : Refusal) (x : Finding) → refused_or h (some r) x ≡ record { said = said_refused r; room = h.room; results = h.results }
 refused-untouched h r x = refl
 
 -- Of the kept items 4 and 7, 7 is item 1 of the compact problem.

@@ -41,7 +41,7 @@ loop-k-preserved c =
         w.put.ensures.ends ∙ v.1,
         w.put.ensures.numbers ∙ v.2,
         w.put.ensures.option ∙ v.3,
-        λ g old xs d. rw (w.put.ensures.items, w.put.ensures.colours, w.put.ensures.entry) (reading-one d (v.4 g old xs d) (cc) w.in-Some-column.c (cc)),
+        λ g old xs d. rw (w.put.ensures.items, w.put.ensures.colours, w.put.ensures.entry, w.from.ensures) (reading-one d (v.4 g old xs d) (cc) w.in-Some-column.c (cc)),
       )
       | in_default-column w ↦ rw w.out-is (v.0, v.1, v.2, v.3, λ g old xs d. reading-over d (v.4 g old xs d) (cc) (cc))
     ]
