@@ -21,7 +21,7 @@ use Rattle.links.proofs.Plans.{row-mate}
 use Rattle.links.proofs.Rows.{At, walked_none}
 use Rattle.links.proofs.Taken.{fresh-front, after-tidy, after_more, taken-header, fresh-after, holds-taken}
 use Rattle.blocking.specs.Undo.{Below, Behind}
-use Rattle.links.proofs.Onward.{Standing}
+use Rattle.links.proofs.Onward.{Underway}
 use Rattle.links.proofs.Backward as Backward
 use Rattle.blocking.proofs.Upwards.{header-in, from-header}
 use Rattle.blocking.proofs.Testing.{testing-more}
@@ -30,7 +30,7 @@ module _ {h : Ground} {tints : List ℕ} {k r s : ℕ} {heads : List ℤ} {up do
   abbrev out : List ℕ
   out = testing h (walked h r (k + 1))
 
-  stands : Standing h out r (k + 1) heads up down
+  stands : Underway h out r (k + 1) heads up down
   stands = record { tidy = m.tidy; fresh = m.fresh; entry = m.entry; place = record { from = m.from; till = m.till }; holds = m.holds }
 
   pub behind-in : (k < length heads) × (k < length down)

@@ -27,7 +27,7 @@ use Rattle.blocking.specs.Forward.{Alive, ground_at, rivals_to, ground_to, Inner
 use Rattle.links.proofs.Taken.{fresh-within, after-tidy, after_more, fresh-after}
 use Rattle.links.proofs.Undoing.{fresh-one-more, take_out, fewer-asks, unlink-asks}
 use Rattle.links.proofs.Onward as Onward
-use Rattle.links.proofs.Onward.{Standing, passing-within}
+use Rattle.links.proofs.Onward.{Underway, passing-within}
 use Rattle.blocking.proofs.Columns.{rival→}
 use Rattle.blocking.proofs.Rivals.{Passed}
 use Rattle.blocking.proofs.Stages.{ground-tidy, rivals-fresh, rival-row}
@@ -68,7 +68,7 @@ module _ {h : Ground} {tints marks : List ℕ} {r s np : ℕ} {heads : List ℤ}
       subst (λ (xs : List ℕ). Fresh (ground_to h r q p) xs) (sym same-others)
       (fresh-after (ground_at h r q) (rivals_to h r q p) (others (ground_at h r q) p) (subst (λ (xs : List ℕ). Fresh (ground_at h r q) xs) one_more (rivals-fresh m.item (p + 1))))
 
-  stands : Standing (ground_to h r q p) (walked (ground_to h r q p) p qq) p qq heads up down
+  stands : Underway (ground_to h r q p) (walked (ground_to h r q p) p qq) p qq heads up down
   stands = record { tidy = to-tidy; fresh = m.fresh; entry = row; place = record { from = m.from; till = m.till }; holds = m.holds }
 
   pub inner-in : (qq < length heads) × (qq < length up)

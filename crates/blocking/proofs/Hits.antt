@@ -20,7 +20,7 @@ use Rattle.links.proofs.Plans.{row-mate}
 use Rattle.links.proofs.Spans.{In-span, span-In}
 use Rattle.links.proofs.Rows.{In-walked, In-others, others-In}
 use Rattle.links.proofs.Gathering.{In-gather}
-use Rattle.blocking.specs.Forward.{Clash, out_at, ground_at, Item, rivals_to, ground_to}
+use Rattle.blocking.specs.Forward.{Clash, out_at, ground_at, AtItem, rivals_to, ground_to}
 use Rattle.links.proofs.Taken.{after-tidy, gone-In}
 use Rattle.blocking.proofs.Stages.{item-entry, item-number, ground-tidy, rival-row, rival-clash, rivals-fresh}
 
@@ -84,7 +84,7 @@ module _ (h : Ground) (r : ℕ) (w : Tested h r) where
       }
 
 -- What is out at each place is of such options.
-module _ {h : Ground} {tints marks : List ℕ} {r s np q : ℕ} (m : Item h tints marks r s np q) where
+module _ {h : Ground} {tints marks : List ℕ} {r s np q : ℕ} (m : AtItem h tints marks r s np q) where
   pub hit-out : {y : ℕ} → In y (out_at h r q) → Hit h r y
   hit-out {y} i =
       let o = m.stage.out y i in

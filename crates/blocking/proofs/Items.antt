@@ -19,11 +19,11 @@ use Rattle.links.proofs.Endings.{item_none, item_some}
 use Rattle.links.specs.Taking.{testing}
 use Rattle.links.proofs.Plans.{header-before}
 use Rattle.links.proofs.Rows.{At, walk_begins, walked_none}
-use Rattle.blocking.specs.Forward.{Test, Stage, out_at, ground_at, Outer, Item, rivals_to, Middle}
+use Rattle.blocking.specs.Forward.{Test, Stage, out_at, ground_at, Outer, AtItem, rivals_to, Middle}
 use Rattle.links.proofs.Taken.{taken-header}
 use Rattle.blocking.proofs.Columns.{none-gathered, down-on, down-col, down-gathered}
 use Rattle.links.proofs.Onward as Onward
-use Rattle.links.proofs.Onward.{Standing}
+use Rattle.links.proofs.Onward.{Underway}
 use Rattle.blocking.proofs.Stages.{stage-none, item-entry, ground-tidy}
 
 -- the place of the walk, and what is known there
@@ -49,7 +49,7 @@ module _ {h : Ground} {tints marks : List ℕ} {r s np : ℕ} {heads : List ℤ}
     e : EntryOf h.plan r
     e = m.test.tested.entry
 
-    stands : Standing h (out_at h r q) r q heads up down
+    stands : Underway h (out_at h r q) r q heads up down
     stands = record { tidy = t; fresh = m.stage.fresh; entry = e; place = record { from = m.from; till = m.till }; holds = m.holds }
 
     -- it is within the lists
@@ -86,7 +86,7 @@ module _ {h : Ground} {tints marks : List ℕ} {r s np : ℕ} {heads : List ℤ}
         an_item : item_of (head heads q) ≢ 0
         an_item e = omega (arith, e, (item_some (head heads q) i some).1)
 
-        pub outer-item : Item h tints marks r s np q
+        pub outer-item : AtItem h tints marks r s np q
         outer-item = record {
           test = m.test;
           from = m.from;

@@ -20,14 +20,14 @@ use Rattle.links.proofs.Plans.{entry-till}
 use Rattle.links.proofs.Rows.{walk_begins, walked_none, full-walked}
 use Rattle.links.proofs.Gathering.{gather_none}
 use Rattle.links.proofs.Descending.{on-entry, reach, reach-past, reach-at, left, step_less}
-use Rattle.blocking.specs.Forward.{Stage, Alive, out_at, ground_at, Outer, Item, rivals_to, ground_to, Middle, Inner}
+use Rattle.blocking.specs.Forward.{Stage, Alive, out_at, ground_at, Outer, AtItem, rivals_to, ground_to, Middle, Inner}
 use Rattle.links.proofs.Taken.{after-tidy, after_more}
 use Rattle.blocking.proofs.Columns.{rival→, rival←, column-same, down-on, down-col, down-gathered}
 use Rattle.blocking.proofs.Testing.{testing-more}
 use Rattle.blocking.proofs.Stages.{stage-more, item-entry, ground-tidy, rivals-fresh}
 
 -- An item that was tested is behind the walk.
-module _ {h : Ground} {tints marks : List ℕ} {r s np q : ℕ} (m : Item h tints marks r s np q) where
+module _ {h : Ground} {tints marks : List ℕ} {r s np q : ℕ} (m : AtItem h tints marks r s np q) where
   t : Tidy h
   t = m.test.tested.tidy
 
@@ -52,7 +52,7 @@ module _ {h : Ground} {tints marks : List ℕ} {r s np q : ℕ} (m : Item h tint
 
 -- Node p of q's column was dealt with, rival or not, and the walk has not gone on yet.
 pub record Passed (h : Ground) (tints marks : List ℕ) (r s np q p : ℕ) (heads : List ℤ) (up down : List ℕ) : Type 0 where
-  pub item : Item h tints marks r s np q
+  pub item : AtItem h tints marks r s np q
   pub behind : s ≤ p
   pub on : (ground_at h r q).on p ≡ true
   pub col : h.plan.col p ≡ h.plan.col q

@@ -19,14 +19,14 @@ use Rattle.links.proofs.Rows.{At, walked_none}
 use Rattle.links.proofs.Taken.{fresh-front}
 use Rattle.blocking.specs.Undo.{Half}
 use Rattle.links.proofs.Undoing.{put_back, more-asks, relink-asks}
-use Rattle.links.proofs.Onward.{Standing}
+use Rattle.links.proofs.Onward.{Underway}
 use Rattle.links.proofs.Backward.{inside, back_some, over-at, over-walked, over-way, full_at, full-col, full-one}
 
 module _ {g : Ground} {p k : ℕ} {heads : List ℤ} {up down : List ℕ} (m : Half g p k heads up down) where
   abbrev behind : List ℕ
   behind = walked g p (k + 1)
 
-  stands : Standing g behind p (k + 1) heads up down
+  stands : Underway g behind p (k + 1) heads up down
   stands = record { tidy = m.tidy; fresh = m.fresh; entry = m.entry; place = record { from = m.from; till = m.till }; holds = m.holds }
 
   pub half_in : (k < length heads) × (k < length down)

@@ -23,7 +23,7 @@ use Rattle.links.proofs.Plans.{row-mate, entry-from, entry-till}
 use Rattle.links.proofs.Rows.{In-walked, In-others, others-In, after-others}
 use Rattle.links.proofs.Taken.{on-taken, after-tidy, after-within, after-fresh, gone-In}
 use Rattle.links.proofs.Gathering.{In-gather, gather-In, gather-fresh}
-use Rattle.blocking.specs.Forward.{Clash, Out, Stage, out_at, ground_at, Item, rivals_to}
+use Rattle.blocking.specs.Forward.{Clash, Out, Stage, out_at, ground_at, AtItem, rivals_to}
 use Rattle.blocking.proofs.Columns.{rival→, rival←, rival-entry}
 
 -- before the first item none is out
@@ -38,7 +38,7 @@ out-more : {h : Ground} (qs rs xs ys : List ℕ) {y : ℕ} → Out h qs xs y →
 out-more qs rs xs ys o = record { met = o.met; clash = clash-more qs rs o.clash; one = o.one; all = λ z m. In-append-l ys (o.all z m) }
 
 -- An item q of r, and the ground when the walk came to it.
-module _ {h : Ground} {tints marks : List ℕ} {r s np q : ℕ} (m : Item h tints marks r s np q) where
+module _ {h : Ground} {tints marks : List ℕ} {r s np q : ℕ} (m : AtItem h tints marks r s np q) where
   t : Tidy h
   t = m.test.tested.tidy
 

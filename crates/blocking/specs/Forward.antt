@@ -13,21 +13,21 @@ use Rattle.links.specs.Taking.{length_of, gather_to, rival_at, testing, Tested, 
 use Rattle.blocking.specs.Stops.{stops_at}
 
 -- What the test of r asks of the ground h in which it runs, and of the other lists.
-pub record Test (h : Ground) (tints marks : List ℕ) (r s np : ℕ) : Type 0 where
+pub record Test (h : Ground) (tints marks : List ℕ) (r first np : ℕ) : Type 0 where
   pub tested : Tested h r
   pub tinted : Tinted h.plan tints
   pub marked : Marked h r marks
-  pub starts : s ≡ start h.plan
+  pub starts : first ≡ start h.plan
   pub few : np ≤ h.plan.n
 
--- Node p is of an option that clashes with one of the items qs of r.
-pub record Clash (h : Ground) (qs : List ℕ) (p : ℕ) : Type 0 where
+-- Node rr is of an option that clashes with one of the items qs of r.
+pub record Clash (h : Ground) (qs : List ℕ) (rr : ℕ) : Type 0 where
   pub item : ℕ
   pub among : In item qs
-  pub entry : EntryOf h.plan p
-  pub on : h.on p ≡ true
-  pub col : h.plan.col p ≡ h.plan.col item
-  pub differ : agree (h.plan.tint item) (h.plan.tint p) ≡ false
+  pub entry : EntryOf h.plan rr
+  pub on : h.on rr ≡ true
+  pub col : h.plan.col rr ≡ h.plan.col item
+  pub differ : agree (h.plan.tint item) (h.plan.tint rr) ≡ false
 
 -- Node y was taken out: its option was met at another node, and has lost all others.
 pub record Out (h : Ground) (qs xs : List ℕ) (y : ℕ) : Type 0 where
@@ -40,7 +40,7 @@ pub record Out (h : Ground) (qs xs : List ℕ) (y : ℕ) : Type 0 where
 pub record Stage (h : Ground) (qs xs : List ℕ) : Type 0 where
   pub fresh : Fresh h xs
   pub out : (y : ℕ) → In y xs → Out h qs xs y
-  pub met : (p : ℕ) → Clash h qs p → In p xs ⊎ ((z : ℕ) → In z (others h p) → In z xs)
+  pub met : (rr : ℕ) → Clash h qs rr → In rr xs ⊎ ((z : ℕ) → In z (others h rr) → In z xs)
 
 -- no primary column that r does not hold was emptied
 abbrev pub Alive : Ground → List ℕ → ℕ → ℕ → List ℤ → Type 0
@@ -54,8 +54,8 @@ abbrev pub ground_at : Ground → ℕ → ℕ → Ground
 ground_at h r q = after h (out_at h r q)
 
 -- At the item of q.
-pub record Outer (h : Ground) (tints marks : List ℕ) (r s np q : ℕ) (heads : List ℤ) (up down : List ℕ) : Type 0 where
-  pub test : Test h tints marks r s np
+pub record Outer (h : Ground) (tints marks : List ℕ) (r first np q : ℕ) (heads : List ℤ) (up down : List ℕ) : Type 0 where
+  pub test : Test h tints marks r first np
   pub from : lo h.plan r ≤ q
   pub till : q ≤ hi h.plan r
   pub stage : Stage h (walked h r q) (out_at h r q)
@@ -63,8 +63,8 @@ pub record Outer (h : Ground) (tints marks : List ℕ) (r s np q : ℕ) (heads :
   pub holds : Holds (taken h (out_at h r q)) heads up down
 
 -- q is another item of r, which is tested now
-pub record Item (h : Ground) (tints marks : List ℕ) (r s np q : ℕ) : Type 0 where
-  pub test : Test h tints marks r s np
+pub record AtItem (h : Ground) (tints marks : List ℕ) (r first np q : ℕ) : Type 0 where
+  pub test : Test h tints marks r first np
   pub from : lo h.plan r ≤ q
   pub till : q < hi h.plan r
   pub other : q ≢ r
@@ -79,27 +79,27 @@ rivals_to h r q k = gather_to (rival_at (ground_at h r q) (h.plan.col q) (h.plan
 abbrev pub ground_to : Ground → ℕ → ℕ → ℕ → Ground
 ground_to h r q k = after (ground_at h r q) (rivals_to h r q k)
 
--- At node p of q's column.
-pub record Middle (h : Ground) (tints marks : List ℕ) (r s np q p : ℕ) (heads : List ℤ) (up down : List ℕ) : Type 0 where
-  pub item : Item h tints marks r s np q
-  pub on : (ground_at h r q).on p ≡ true
-  pub col : h.plan.col p ≡ h.plan.col q
+-- At node rr of q's column.
+pub record Middle (h : Ground) (tints marks : List ℕ) (r first np q rr : ℕ) (heads : List ℤ) (up down : List ℕ) : Type 0 where
+  pub item : AtItem h tints marks r first np q
+  pub on : (ground_at h r q).on rr ≡ true
+  pub col : h.plan.col rr ≡ h.plan.col q
   pub alive : Alive h marks r np heads
-  pub holds : Holds (taken (ground_at h r q) (rivals_to h r q (reach h.plan p))) heads up down
+  pub holds : Holds (taken (ground_at h r q) (rivals_to h r q (reach h.plan rr))) heads up down
 
--- At node qq of the rival p.
-pub record Inner (h : Ground) (tints marks : List ℕ) (r s np q p qq : ℕ) (heads : List ℤ) (up down : List ℕ) : Type 0 where
-  pub item : Item h tints marks r s np q
-  pub rival : rival_at (ground_at h r q) (h.plan.col q) (h.plan.tint q) p ≡ true
-  pub from : lo h.plan p ≤ qq
-  pub till : qq ≤ hi h.plan p
-  pub fresh : Fresh (ground_to h r q p) (walked (ground_to h r q p) p qq)
+-- At node qq of the rival rr.
+pub record Inner (h : Ground) (tints marks : List ℕ) (r first np q rr qq : ℕ) (heads : List ℤ) (up down : List ℕ) : Type 0 where
+  pub item : AtItem h tints marks r first np q
+  pub rival : rival_at (ground_at h r q) (h.plan.col q) (h.plan.tint q) rr ≡ true
+  pub from : lo h.plan rr ≤ qq
+  pub till : qq ≤ hi h.plan rr
+  pub fresh : Fresh (ground_to h r q rr) (walked (ground_to h r q rr) rr qq)
   pub alive : Alive h marks r np heads
-  pub holds : Holds (taken (ground_to h r q p) (walked (ground_to h r q p) p qq)) heads up down
+  pub holds : Holds (taken (ground_to h r q rr) (walked (ground_to h r q rr) rr qq)) heads up down
 
 -- There the walk breaks off.
-pub record Stopped (h : Ground) (tints marks : List ℕ) (r s np q p qq : ℕ) (heads : List ℤ) (up down : List ℕ) : Type 0 where
-  pub inner : Inner h tints marks r s np q p qq heads up down
-  pub other : qq ≢ p
+pub record Stopped (h : Ground) (tints marks : List ℕ) (r first np q rr qq : ℕ) (heads : List ℤ) (up down : List ℕ) : Type 0 where
+  pub inner : Inner h tints marks r first np q rr qq heads up down
+  pub other : qq ≢ rr
   pub full : item_of (head heads qq) ≢ 0
   pub stops : stops_at heads marks (item_of (head heads qq)) r np ≡ true

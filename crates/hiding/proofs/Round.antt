@@ -21,7 +21,7 @@ use Rattle.links.proofs.Endings.{column_of, item_none, item_some}
 use Rattle.links.proofs.Undoing.{fresh-one-more, take_out, fewer-asks, unlink-asks}
 use Rattle.links.proofs.Rows.{At, walk_begins, walked_none}
 use Rattle.links.proofs.Onward as Onward
-use Rattle.links.proofs.Onward.{Standing, passing-within}
+use Rattle.links.proofs.Onward.{Underway, passing-within}
 use Rattle.hiding.specs.Hiding.{Around, Taken}
 use Rattle.hiding.proofs.LastOut.{last_out-more}
 
@@ -57,7 +57,7 @@ module _ {g : Ground} {rr np : ℕ} {last : Option ℕ} (a : Around g rr) where
   finish m z e = (last_out g np (others g rr) z, m.chosen z e, record { holds = m.holds; last = refl })
 
   module _ {heads : List ℤ} {up down : List ℕ} {nn : ℕ} {stack : Option ℕ} (m : Round g rr np last heads up down nn stack) where
-    stands : Standing g (walked g rr nn) rr nn heads up down
+    stands : Underway g (walked g rr nn) rr nn heads up down
     stands = record { tidy = a.tidy; fresh = m.fresh; entry = a.entry; place = m.place; holds = m.holds }
 
     -- the place is within the lists

@@ -14,11 +14,11 @@ pub record Around (g : Ground) (rr : ℕ) : Type 0 where
   pub within : (y : ℕ) → In y (others g rr) → Within g y
 
 -- c is the header of a column, from which a walk goes down.
-pub record Column (g : Ground) (tints : List ℕ) (c from : ℕ) : Type 0 where
+pub record Column (g : Ground) (tints : List ℕ) (c first : ℕ) : Type 0 where
   pub ready : Ready g
   pub tinted : Tinted g.plan tints
   pub header : Header g.plan c
-  pub begins : from ≡ start g.plan
+  pub begins : first ≡ start g.plan
 
 -- The lists after the nodes xs were taken out, and the last primary column so emptied, or z.
 pub record Taken (g : Ground) (xs : List ℕ) (np z : ℕ) (heads : List ℤ) (up down : List ℕ) (r : ℕ) : Type 0 where

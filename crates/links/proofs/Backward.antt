@@ -12,12 +12,12 @@ use Rattle.links.specs.Ground.{Ground, Tidy, after}
 use Rattle.links.specs.Row.{walked}
 use Rattle.links.specs.Way.{way_back}
 use Rattle.links.proofs.Rows as Rows
-use Rattle.links.proofs.Onward.{Standing}
+use Rattle.links.proofs.Onward.{Underway}
 use Rattle.links.proofs.Rows.{At, back_inside, back-full-way, back-over-at, back-over-walked, full-item, full-walked, after-walked}
 use Rattle.links.proofs.Taken.{after-tidy}
 
 -- The nodes xs are out of g, and a walk back round p's option is at k.
-module _ {g : Ground} {xs : List ℕ} {p : ℕ} (k : ℕ) {heads : List ℤ} {up down : List ℕ} (m : Standing g xs p (k + 1) heads up down) where
+module _ {g : Ground} {xs : List ℕ} {p : ℕ} (k : ℕ) {heads : List ℤ} {up down : List ℕ} (m : Underway g xs p (k + 1) heads up down) where
   -- the ground as it is now
   abbrev now : Ground
   now = after g xs

@@ -17,14 +17,14 @@ use Rattle.links.proofs.Rows.{At, after-walked}
 use Rattle.links.proofs.Taken.{after-tidy, after-within, taken-entry-head}
 
 -- The nodes xs are out of g, and a walk round p's option stands at nn: forwards, nn is the next node; backwards, nn - 1 is.
-pub record Standing (g : Ground) (xs : List ℕ) (p nn : ℕ) (heads : List ℤ) (up down : List ℕ) : Type 0 where
+pub record Underway (g : Ground) (xs : List ℕ) (p nn : ℕ) (heads : List ℤ) (up down : List ℕ) : Type 0 where
   pub tidy : Tidy g
   pub fresh : Fresh g xs
   pub entry : EntryOf g.plan p
   pub place : At g p nn
   pub holds : Holds (taken g xs) heads up down
 
-module _ {g : Ground} {xs : List ℕ} {p nn : ℕ} {heads : List ℤ} {up down : List ℕ} (m : Standing g xs p nn heads up down) where
+module _ {g : Ground} {xs : List ℕ} {p nn : ℕ} {heads : List ℤ} {up down : List ℕ} (m : Underway g xs p nn heads up down) where
   -- the ground as it is now
   abbrev now : Ground
   now = after g xs
@@ -93,7 +93,7 @@ module _ {g : Ground} {xs : List ℕ} {p nn : ℕ} {heads : List ℤ} {up down :
     full-way n s = Rows.full-way now now-tidy p m.entry n nn (omega (arith, s, ap length m.holds.heads-are, now-tidy.heads-in)) place d
 
 -- A walk that takes out what it passes: the entry where it stands is in its column still.
-pub passing-within : {g : Ground} {p nn : ℕ} {heads : List ℤ} {up down : List ℕ} → Standing g (walked g p nn) p nn heads up down → nn ≢ p → item_of (head heads nn) ≢ 0
+pub passing-within : {g : Ground} {p nn : ℕ} {heads : List ℤ} {up down : List ℕ} → Underway g (walked g p nn) p nn heads up down → nn ≢ p → item_of (head heads nn) ≢ 0
     → ((y : ℕ) → In y (others g p) → Within g y) → Within (after g (walked g p nn)) nn
 passing-within {g} {p} {nn} m d z within =
     after-within g (walked g p nn) m.tidy m.fresh (within nn (full-among m d z)) (λ i. (Rows.In-walked g m.tidy p m.entry nn m.place i).3 refl)
