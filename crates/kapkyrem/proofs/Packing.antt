@@ -28,8 +28,8 @@ packed-exact : (r : Refusal) → r.place < 2 ^ 56 → packed_renumbered (some r)
 packed-exact r h = ap (λ (p : ℕ). r.number + 256 * p) (mod-eq_of_lt h)
 
 -- So the call over byte lists has an exact packed answer.
-pub compact-exact : (kept : List ℕ) (primaries : ℕ) (items out : List ℕ) (r : Refusal) → length items < 2 ^ 58 → (compact_bytes_outcome kept primaries items out).refusal ≡ some r
-    → (called_renumbered (compact_bytes_outcome kept primaries items out)).answer ≡ packed_refusal r
+pub compact-exact : (kept : List ℕ) (primaries : ℕ) (items out : List ℕ) (r : Refusal) → length items < 2 ^ 58
+    → (compact_bytes_outcome kept primaries items out).refusal ≡ some r → (called_renumbered (compact_bytes_outcome kept primaries items out)).answer ≡ packed_refusal r
 compact-exact kept primaries items out r h e =
     let w = bytes-within kept primaries items out in
     rw e (packed-exact r (omega (arith, ap place_of e, w, fours-fit items)))

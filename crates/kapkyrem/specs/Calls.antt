@@ -40,7 +40,8 @@ pub record CalledCompact : Type 0 where
 abbrev pub called_compact : ℕ → List ℕ → CalledCompact
 called_compact answer out = record { answer = answer; out = out }
 
--- Done is number 0, place 0. A place has the upper 56 bits, which any item list of up to 2 ^ 58 bytes keeps to.
+-- What C is told of a renumbering: done is number 0, place 0. A refusal's place has the upper 56 bits, which any item list of up to 2 ^ 58 bytes
+-- keeps to.
 abbrev pub told : Option Refusal → Refusal
 told none = record { number = 0; place = 0 }
 told (some r) = record { number = r.number; place = r.place % 2 ^ 56 }

@@ -54,4 +54,5 @@ module _ (kept : List ℕ) (primaries : ℕ) (items out : List ℕ) where
       go (some r) f = refl
       go none f =
           let a = accepted (numbers_of kept) primaries (numbers_of items) (numbers_of out) f in
-          ap (λ (l : List ℕ). record { refusal = none; out = l }) (numbers-written new out (places-fit (numbers_of kept) primaries (numbers_of items) a.0 a.1 (numbers-small items b)))
+          let fit = places-fit (numbers_of kept) primaries (numbers_of items) a.0 a.1 (numbers-small items b) in
+          ap (λ (l : List ℕ). record { refusal = none; out = l }) (numbers-written new out fit)
