@@ -28,7 +28,7 @@ use Rattle.showing.proofs.Deleted.{deletes-fresh, condemned-apart}
 use Rattle.removing.specs.Deleting.{Deleting, Deleted}
 use Rattle.removing.proofs.Emptying.{first_some, first-none}
 use Rattle.links.specs.Lead.{Led, Leads}
-use Rattle.condemning.specs.Search.{down_to, Chain, Sparing}
+use Rattle.condemning.specs.Search.{down_to, Chain, Sparing, Spared}
 
 -- the list falls: it is empty, or it has a first element, and behind it those below that
 pub down-front : (f : ℕ → Bool) (k : ℕ) → (down_to f k ≡ []) ⊎ ((x : ℕ) × (x < k) × (f x ≡ true) × (down_to f k ≡ x ∷ down_to f x))
@@ -76,7 +76,7 @@ module _ (g : Ground) (R : Ready g) (i np : ℕ) (C : Condemns np i g (down_to (
 
   module _ {tints : List ℕ} {heads : List ℤ} {up down : List ℕ} {r : ℕ} (d : Deletes g i np tints heads up down r) where
     -- at 0 it is done
-    pub deletes-end : r ≡ 0 → Deleted g np (deletes g (down_to (condemned_at np i g) g.plan.N)) heads up down 0
+    pub deletes-end : r ≡ 0 → Spared g i np heads up down 0
     deletes-end z = ⊎_elim empty (λ w. absurd (some w)) (down-front (condemned_at np i g) d.bound)
       where
         some : (x : ℕ) × (x < d.bound) × (condemned_at np i g x ≡ true) × (down_to (condemned_at np i g) d.bound ≡ x ∷ down_to (condemned_at np i g) x) → ⊥
@@ -84,10 +84,16 @@ module _ (g : Ground) (R : Ready g) (i np : ℕ) (C : Condemns np i g (down_to (
             let c = subst (Chain g.plan tints r) w.3 d.chain in
             omega (arith, entry-from g.plan W w.0 (entry-is w.0 w.2), c.0, z)
 
-        empty : down_to (condemned_at np i g) d.bound ≡ [] → Deleted g np (deletes g (down_to (condemned_at np i g) g.plan.N)) heads up down 0
-        empty e =
-            let s : down_to (condemned_at np i g) g.plan.N ≡ d.done = d.split ∙ ap (λ (l : List ℕ). d.done ++ l) e ∙ append-nil d.done in
-            record { answer = sym (ap (λ (l : List ℕ). first_out g np (deletes g l)) s ∙ d.none); holds = λ q. subst (λ (l : List ℕ). Holds (taken g (deletes g l)) heads up down) (sym s) d.holds }
+        empty : down_to (condemned_at np i g) d.bound ≡ [] → Spared g i np heads up down 0
+        empty e = record {
+          done = d.done;
+          left = down_to (condemned_at np i g) d.bound;
+          split = d.split;
+          all = λ q. e;
+          holds = d.holds;
+          emptied = sym d.none;
+          answer = sym (ap (λ (l : List ℕ). first_out g np (deletes g l)) (d.split ∙ ap (λ (l : List ℕ). d.done ++ l) e ∙ append-nil d.done) ∙ d.none);
+        }
 
     module _ (n : r ≢ 0) where
       rest : (r < d.bound) × (condemned_at np i g r ≡ true) × (down_to (condemned_at np i g) d.bound ≡ r ∷ down_to (condemned_at np i g) r)
@@ -154,24 +160,12 @@ module _ (g : Ground) (R : Ready g) (i np : ℕ) (C : Condemns np i g (down_to (
             ∙ ap (λ (x : Ground). first_out x np (others g r ++ (r ∷ []))) (sym (taken-after g (deletes g d.done)))
             ∙ sym (first-none g np (deletes g d.done) (others g r ++ (r ∷ [])) R.tidy fresh-done d.none)
 
-        pub deletes-stop : z ≢ 0 → Deleted g np (deletes g (down_to (condemned_at np i g) g.plan.N)) heads' up' down' z
-        deletes-stop m = record {
-          answer =
-              same_first
-              ∙ sym (first_some g np (deletes g d.done ++ (others g r ++ (r ∷ []))) (deletes g (down_to (condemned_at np i g) r)) (λ q. m (same_first ∙ q)))
-              ∙ ap (first_out g np) (sym whole);
-          holds = λ q. absurd (m q);
-        }
+        -- r's option is one of those deleted then
+        split_next : down_to (condemned_at np i g) g.plan.N ≡ (d.done ++ (r ∷ [])) ++ down_to (condemned_at np i g) r
+        split_next = d.split ∙ ap (λ (l : List ℕ). d.done ++ l) rest.2 ∙ sym (append_assoc d.done (r ∷ []) (down_to (condemned_at np i g) r))
 
-        pub deletes-next : z ≡ 0 → Deletes g i np tints heads' up' down' (at tints (lo g.plan r - 1))
-        deletes-next e = record {
-          done = d.done ++ (r ∷ []);
-          bound = r;
-          split = d.split ∙ ap (λ (l : List ℕ). d.done ++ l) rest.2 ∙ sym (append_assoc d.done (r ∷ []) (down_to (condemned_at np i g) r));
-          chain = next-chain;
-          none = ap (first_out g np) more ∙ sym same_first ∙ e;
-          holds = subst (λ (x : Ground). Holds x heads' up' down') place (a.holds e);
-        }
+        next_holds : Holds (taken g (deletes g (d.done ++ (r ∷ [])))) heads' up' down'
+        next_holds = subst (λ (x : Ground). Holds x heads' up' down') place a.holds
           where
             place : taken (after g (deletes g d.done)) (others (after g (deletes g d.done)) r ++ (r ∷ [])) ≡ taken g (deletes g (d.done ++ (r ∷ [])))
             place =
@@ -183,19 +177,54 @@ module _ (g : Ground) (R : Ready g) (i np : ℕ) (C : Condemns np i g (down_to (
         then-fresh : Fresh g (deletes g (d.done ++ (r ∷ [])))
         then-fresh = subst (Fresh g) (sym more) (fresh-front g (deletes g d.done ++ (others g r ++ (r ∷ []))) (deletes g (down_to (condemned_at np i g) r)) fresh)
 
-        -- the boundary before r's option is found from r
-        pub deleted-led : z ≡ 0 → Led (after g (deletes g (d.done ++ (r ∷ [])))) r heads' down'
-        unfolding deletes-next
-        deleted-led e =
-            let w = (deletes-next e).holds in
-            record { tidy = after-tidy g (deletes g (d.done ++ (r ∷ []))) R.tidy then-fresh; entry = at_entry; heads-are = w.heads-are; down-are = w.down-are }
+        next_first : z ≡ first_out g np (deletes g (d.done ++ (r ∷ [])))
+        next_first = same_first ∙ sym (ap (first_out g np) more)
 
-        pub deleted-lead : z ≡ 0 → {q : ℕ} → Leads (after g (deletes g (d.done ++ (r ∷ [])))) r q → q ≡ lo g.plan r - 1
-        deleted-lead e l = l.before (after-first g (deletes g (d.done ++ (r ∷ []))) R.tidy then-fresh r at_entry ∙ first-is r rest.1)
+        pub deletes-stop : z ≢ 0 → Spared g i np heads' up' down' z
+        deletes-stop m = record {
+          done = d.done ++ (r ∷ []);
+          left = down_to (condemned_at np i g) r;
+          split = split_next;
+          all = λ q. absurd (m q);
+          holds = next_holds;
+          emptied = next_first;
+          answer =
+              same_first
+              ∙ sym (first_some g np (deletes g d.done ++ (others g r ++ (r ∷ []))) (deletes g (down_to (condemned_at np i g) r)) (λ q. m (same_first ∙ q)))
+              ∙ ap (first_out g np) (sym whole);
+        }
+
+        pub deletes-next : z ≡ 0 → Deletes g i np tints heads' up' down' (at tints (lo g.plan r - 1))
+        deletes-next e = record {
+          done = d.done ++ (r ∷ []);
+          bound = r;
+          split = split_next;
+          chain = next-chain;
+          none = sym next_first ∙ e;
+          holds = next_holds;
+        }
+
+        -- the boundary before r's option is found from r
+        pub deleted-led : Led (after g (deletes g (d.done ++ (r ∷ [])))) r heads' down'
+        deleted-led = record {
+          tidy = after-tidy g (deletes g (d.done ++ (r ∷ []))) R.tidy then-fresh;
+          entry = at_entry;
+          heads-are = next_holds.heads-are;
+          down-are = next_holds.down-are;
+        }
+
+        pub deleted-lead : {q : ℕ} → Leads (after g (deletes g (d.done ++ (r ∷ [])))) r q → q ≡ lo g.plan r - 1
+        deleted-lead l = l.before (after-first g (deletes g (d.done ++ (r ∷ []))) R.tidy then-fresh r at_entry ∙ first-is r rest.1)
 
       -- the next is lower
       pub next-lower : at tints (lo g.plan r - 1) < r
       next-lower = ⊎_elim (λ e. let c = subst (Chain g.plan tints (at tints (lo g.plan r - 1))) e next-chain in omega (arith, c, entry-from g.plan W r at_entry)) (λ w. let c = subst (Chain g.plan tints (at tints (lo g.plan r - 1))) w.3 next-chain in omega (arith, c.0, w.1)) (down-front (condemned_at np i g) r)
+
+-- Where no column was emptied, the lists are those without all that were found.
+pub spared-all : {g : Ground} {i np z : ℕ} {heads : List ℤ} {up down : List ℕ} → Spared g i np heads up down z → z ≡ 0
+    → Holds (taken g (deletes g (down_to (condemned_at np i g) g.plan.N))) heads up down
+spared-all {g} {i} {np} {z} {heads} {up} {down} s e =
+    subst (λ (l : List ℕ). Holds (taken g (deletes g l)) heads up down) (sym (s.split ∙ ap (λ (l : List ℕ). s.done ++ l) (s.all e) ∙ append-nil s.done)) s.holds
 
 -- The option of r is deleted too, and nothing was emptied: a walk back from r finds the boundary before it, and there is the next of the chain.
 pub record Onwards (g : Ground) (i np r : ℕ) (tints : List ℕ) (heads : List ℤ) (up down : List ℕ) : Type 0 where
@@ -210,14 +239,14 @@ module _ {g : Ground} {i np z : ℕ} {heads₀ : List ℤ} {up₀ down₀ tints 
   pub spare-begin : Deletes g i np tints heads₀ up₀ down₀ z
   spare-begin = deletes-begin g s.ready i np s.condemns s
 
-  pub spare-end : {heads : List ℤ} {up down : List ℕ} → Deletes g i np tints heads up down 0 → Deleted g np (deletes g (down_to (condemned_at np i g) g.plan.N)) heads up down 0
+  pub spare-end : {heads : List ℤ} {up down : List ℕ} → Deletes g i np tints heads up down 0 → Spared g i np heads up down 0
   spare-end d = deletes-end g s.ready i np s.condemns d refl
 
   -- where a walk back from r ends, there is the next of the chain
   pub spare-next : {heads : List ℤ} {up down : List ℕ} {r : ℕ} (d : Deletes g i np tints heads up down r) → r ≢ 0
       → {heads' : List ℤ} {up' down' : List ℕ} {y : ℕ} → Deleted (after g (deletes g d.done)) np (others (after g (deletes g d.done)) r ++ (r ∷ [])) heads' up' down' y → y ≡ 0
       → {q : ℕ} → Leads (after g (deletes g (d.done ++ (r ∷ [])))) r q → Deletes g i np tints heads' up' down' (at tints q)
-  spare-next d n a e l = rw (deleted-lead g s.ready i np s.condemns d n a e l) (deletes-next g s.ready i np s.condemns d n a e)
+  spare-next d n a e l = rw (deleted-lead g s.ready i np s.condemns d n a l) (deletes-next g s.ready i np s.condemns d n a e)
 
   module _ {heads : List ℤ} {up down : List ℕ} {r : ℕ} (d : Deletes g i np tints heads up down r × (r ≢ 0)) where
     pub spare-deleting : Deleting (after g (deletes g d.0.done)) r heads up down
@@ -227,15 +256,15 @@ module _ {g : Ground} {i np z : ℕ} {heads₀ : List ℤ} {up₀ down₀ tints 
     spare-within = at-within g s.ready i np s.condemns d.0 d.1
 
     pub spare-stop : {heads' : List ℤ} {up' down' : List ℕ} {y : ℕ} → Deleted (after g (deletes g d.0.done)) np (others (after g (deletes g d.0.done)) r ++ (r ∷ [])) heads' up' down' y → y ≢ 0
-        → Deleted g np (deletes g (down_to (condemned_at np i g) g.plan.N)) heads' up' down' y
+        → Spared g i np heads' up' down' y
     spare-stop a m = deletes-stop g s.ready i np s.condemns d.0 d.1 a m
 
     pub spare-onwards : {heads' : List ℤ} {up' down' : List ℕ} → Deleted (after g (deletes g d.0.done)) np (others (after g (deletes g d.0.done)) r ++ (r ∷ [])) heads' up' down' 0
         → Onwards g i np r tints heads' up' down'
     spare-onwards {heads'} {up'} {down'} a = record {
       done = d.0.done ++ (r ∷ []);
-      led = deleted-led g s.ready i np s.condemns d.0 d.1 a refl;
+      led = deleted-led g s.ready i np s.condemns d.0 d.1 a;
       inside = λ q l. omega (arith, l.inside, s.tinted.room);
-      lower = λ q l. rw (deleted-lead g s.ready i np s.condemns d.0 d.1 a refl l) (next-lower g s.ready i np s.condemns d.0 d.1);
+      lower = λ q l. rw (deleted-lead g s.ready i np s.condemns d.0 d.1 a l) (next-lower g s.ready i np s.condemns d.0 d.1);
       next = λ q l. spare-next d.0 d.1 a refl l;
     }

@@ -1,12 +1,12 @@
 -- The tests of item i, whose column is i + 1, while it is hidden: what is asked, and what is found. The options found blocked are kept in a chain, the highest
 -- first: the colour of the boundary before an option's entries names the one found before it. Assumes nothing.
-use Rattle.std.specs.Prelude.{ℕ, zero, suc, ◌+◌, ◌-◌, ◌≤◌, ◌≡◌, Bool, true, cond, List, [], ◌∷◌, ℤ}
+use Rattle.std.specs.Prelude.{ℕ, zero, suc, ◌+◌, ◌-◌, ◌≤◌, ◌≡◌, Bool, true, cond, List, [], ◌∷◌, ◌++◌, ℤ}
 use Rattle.links.specs.Column.{at}
 use Rattle.links.specs.Plan.{Plan, start, lo, Header}
 use Rattle.links.specs.Ground.{Ground, Holds, taken}
 use Rattle.links.specs.Shown.{Ready, Tinted}
-use Rattle.links.specs.Taking.{in_column, hides}
-use Rattle.showing.specs.Showing.{condemned_at, Condemns}
+use Rattle.links.specs.Taking.{in_column, hides, first_out}
+use Rattle.showing.specs.Showing.{deletes, condemned_at, Condemns}
 use Rattle.condemning.specs.Marks.{Known}
 
 -- the numbers below k that pass, the highest first
@@ -55,3 +55,14 @@ pub record Sparing (g : Ground) (i np z : ℕ) (heads : List ℤ) (up down tints
   pub condemns : Condemns np i g (down_to (condemned_at np i g) g.plan.N)
   pub chain : Chain g.plan tints z (down_to (condemned_at np i g) g.plan.N)
   pub holds : Holds g heads up down
+
+-- What comes of it: the options `done`, the highest of those found, are deleted whole, and z is the first primary column that this emptied. If there is
+-- none, they are all that were found; else some may be left, and with those gone too z would be the same.
+pub record Spared (g : Ground) (i np : ℕ) (heads : List ℤ) (up down : List ℕ) (z : ℕ) : Type 0 where
+  pub done : List ℕ
+  pub left : List ℕ
+  pub split : down_to (condemned_at np i g) g.plan.N ≡ done ++ left
+  pub all : z ≡ 0 → left ≡ []
+  pub holds : Holds (taken g (deletes g done)) heads up down
+  pub emptied : z ≡ first_out g np (deletes g done)
+  pub answer : z ≡ first_out g np (deletes g (down_to (condemned_at np i g) g.plan.N))

@@ -3,9 +3,7 @@ ghost use Rattle.std.specs.Prelude.{◌≡◌, ℕ, ◌+◌};
 ghost use Rattle.links.specs.Ending.{ending};
 ghost use Rattle.links.specs.Ground.{Ground};
 ghost use Rattle.links.specs.Nodes.{in_nodes, SameNodes, Untouched, column};
-ghost use Rattle.removing.specs.Deleting.{Deleted};
-ghost use Rattle.showing.specs.Showing.{deletes, condemned_at};
-ghost use Rattle.condemning.specs.Search.{down_to, Search, Hiding, Tried, Trying, Sparing};
+ghost use Rattle.condemning.specs.Search.{Search, Hiding, Tried, Trying, Sparing, Spared};
 
 use crate::chain::{chain, chained};
 use crate::mark::mark_items;
@@ -66,7 +64,7 @@ pub fn condemn(nodes: &mut Nodes, tints: &mut [u32], marks: &mut [u32], c: usize
     stack
 }
 
-// Deletes the options of the chain, the highest first, until a primary item is left in no option.
+// Deletes the options of the chain, the highest first, each to its end, until a primary item is left in no option.
 pub fn delete_condemned(
     nodes: &mut Nodes,
     tints: &[u32],
@@ -77,7 +75,7 @@ pub fn delete_condemned(
     ensures nodes { SameNodes nodes.old nodes.new }
     ensures deleted { (g : Ground) (i z : ℕ) → stack ≡ column z
         → in_nodes (Sparing g i nodes.old.np z) nodes.old tints.now
-        → (w : ℕ) × (result ≡ ending w) × in_nodes (Deleted g nodes.old.np (deletes g (down_to (condemned_at nodes.old.np i g) g.plan.N))) nodes.new w }
+        → (w : ℕ) × (result ≡ ending w) × in_nodes (Spared g i nodes.old.np) nodes.new w }
 {
     let mut next = stack;
     // along the chain, which is known link by link

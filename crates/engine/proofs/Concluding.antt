@@ -18,8 +18,7 @@ use Rattle.rules.specs.Outcome.{cleared, fronts, said_of, concluded}
 use Rattle.rules.specs.Paper.{Said, said_infeasible}
 use Rattle.theorems.proofs.Words.Tests.{T-nor}
 use Rattle.theorems.proofs.Checks.Accept.{ChecksPassed, passed}
-use Rattle.theorems.proofs.Answers.Causes.{cause-range}
-use Rattle.theorems.proofs.Answers.Bounds.{ReducedWithin, InfeasibleWithin, Within, bounds}
+use Rattle.theorems.proofs.Answers.Bounds.{ReducedWithin, Within, bounds}
 use Rattle.building.specs.Layout.{plan_for, plan_of}
 use Rattle.building.specs.Build.{Buildable}
 use Rattle.building.proofs.Premises.{buildable}
@@ -93,18 +92,6 @@ module _ {h : Handed} (t : TakenIn h) where
 
   pub call-buildable : Buildable figures h.np h.ns (h.np + h.ns) h.items h.colours h.ends h.room.heads h.room.up h.room.down h.room.tints h.room.marks
   call-buildable = buildable figures (omega arith) h false e
-
-  -- a column that the rounds stop at is that of a primary item
-  pub stop-small : {item cause round : ℕ} → reduce a h.cap ≡ infeasible item cause round → item < node_bound
-  stop-small {item} {cause} {round} q =
-      let w : InfeasibleWithin h item cause round = subst (Within h) q (bounds figures false h e) in
-      omega (arith, w.primary, P.items)
-
-  -- for one of the three causes
-  pub stop-why : {item cause round : ℕ} → reduce a h.cap ≡ infeasible item cause round → (1 ≤ cause) × (cause ≤ 3)
-  stop-why {item} {cause} {round} q =
-      let w : InfeasibleWithin h item cause round = subst (Within h) q (bounds figures false h e) in
-      cause-range w.why
 
   -- the rounds stop at an item: no result is written
   pub call-infeasible : {item cause round number : ℕ} {room : Room} → reduce a h.cap ≡ infeasible item cause round → number ≡ cause → room ≡ cleared h.room

@@ -1,40 +1,41 @@
 -- From the nodes as they are built to what the rounds find, in the words of the rules. Assumes nothing.
-use Prim.Native.Nat.{ℕ, ◌+◌, ◌-◌, ◌<◌, ◌≤◌}
+use Prim.Native.Nat.{ℕ, ◌+◌, ◌≤◌}
 use native.Mathlib.Omega.{arith}
 use mathlib.Core.Path.{◌≡◌, refl, ◌∙◌, ap, sym, subst}
-use mathlib.Core.Logic.{◌≢◌}
 use mathlib.Core.List.{List}
 use mathlib.Core.Option.{Option, none, some}
 use lib.ListN.{length}
 use lib.IntN.{ℤ}
-use Rattle.std.specs.Prelude.{Result, Err}
+use Rattle.std.specs.Prelude.{Result, Err, Some, None}
 use Rattle.rules.specs.declared.answer.Cause.TheVariants.{Start}
+use Rattle.rules.specs.declared.number.Item.{Item}
+use Rattle.std.proofs.Common.{rules}
 use Rattle.rules.specs.Problem.{Problem, Figures, problem_of}
 use Rattle.rules.specs.Rounds.{Finding, infeasible, uncovered, unless_uncovered, rounds, reduce}
 use Rattle.rules.specs.Rounds.{start as starting}
 use Rattle.links.specs.Ground.{Ground}
 use Rattle.condemning.specs.Marks.{Known}
-use Rattle.showing.specs.Showing.{state_of, column_or}
+use Rattle.showing.specs.Showing.{state_of}
 use Rattle.building.specs.Layout.{plan_of}
 use Rattle.building.specs.Laid.{every}
 use Rattle.building.specs.Build.{Buildable, Built, built}
 use Rattle.preproc.specs.declared.rounds.Done.{Done}
 use Rattle.preproc.specs.declared.rounds.Infeasible.{Infeasible}
-use Rattle.preproc.specs.Standing.{Standing, Figured, Looking, Ended}
+use Rattle.preproc.specs.Standing.{Standing, Figured, Looking, item_told, Ended}
 
 -- the answer as the rules put it together
 reduce-is : (a : Problem) (cap : ℕ) → reduce a cap ≡ unless_uncovered (uncovered a.np (starting a)) (rounds a.np a.n cap 0 (starting a))
 unfolding reduce
 reduce-is a cap = refl
 
--- a column that is not 0 is that of an item found, and 0 is that of none
-found_some : (o : Option ℕ) (t : Finding) (z : ℕ) → z ≡ column_or 0 o → z ≢ 0 → unless_uncovered o t ≡ infeasible (z - 1) 1 0
-found_some none t z e q = absurd (q e)
-found_some (some i) t z e q = let d : i ≡ z - 1 = omega (arith, e) in ap (λ (k : ℕ). infeasible k 1 0) d
+-- an item is told, or there is none
+found_some : (o : Option ℕ) (t : Finding) (i : Item) → Some i ≡ item_told o → unless_uncovered o t ≡ infeasible i.0 1 0
+found_some none t i e = search rules
+found_some (some q) t i e = search rules
 
-found_none : (o : Option ℕ) (t : Finding) (z : ℕ) → z ≡ column_or 0 o → z ≡ 0 → unless_uncovered o t ≡ t
-found_none none t z e q = refl
-found_none (some i) t z e q = absurd (omega (arith, e, q))
+found_none : (o : Option ℕ) (t : Finding) → None ≡ item_told o → unless_uncovered o t ≡ t
+found_none none t e = refl
+found_none (some q) t e = search rules
 
 module _ {f : Figures} {np ns n : ℕ} {items colours ends : List ℕ} {heads₀ : List ℤ} {up₀ down₀ tints₀ marks₀ : List ℕ} (b : Buildable f np ns n items colours ends heads₀ up₀ down₀ tints₀ marks₀) where
   abbrev a : Problem
@@ -90,19 +91,19 @@ module _ {f : Figures} {np ns n : ℕ} {items colours ends : List ℕ} {heads₀
           ∙ ap (λ s. unless_uncovered (uncovered np s) (rounds np n cap 0 s)) (sym w.shows)
 
       module _ {m : ℕ} (me : m ≡ np) {heads' : List ℤ} {up' down' tints' marks' : List ℕ} where
-        pub run-uncovered : {z : ℕ} → z ≡ column_or 0 (uncovered m (state_of ground)) → 0 < z
-            → Ended (plan_of a) (reduce a cap) (Err (record { column = z; cause = Start; round = 0 })) heads' up' down' tints' marks'
-        run-uncovered {z} e q = record {
-          stops = (q, finds ∙ found_some (uncovered np (state_of ground)) _ z (e ∙ ap (λ (k : ℕ). column_or 0 (uncovered k (state_of ground))) me) (omega (arith, q)));
+        pub run-uncovered : {i : Item} → Some i ≡ item_told (uncovered m (state_of ground))
+            → Ended (plan_of a) (reduce a cap) (Err (record { item = i; cause = Start; round = 0 })) heads' up' down' tints' marks'
+        run-uncovered {i} e = record {
+          stops = finds ∙ found_some (uncovered np (state_of ground)) _ i (e ∙ ap (λ (k : ℕ). item_told (uncovered k (state_of ground))) me);
           goes = tt;
         }
 
-        pub run-rounds : {k : ℕ} {found : Result Done Infeasible} → column_or 0 (uncovered m (state_of ground)) ≡ 0 → k ≡ n
+        pub run-rounds : {k : ℕ} {found : Result Done Infeasible} → None ≡ item_told (uncovered m (state_of ground)) → k ≡ n
             → Ended (plan_of a) (rounds m k cap 0 (state_of ground)) found heads' up' down' tints' marks' → Ended (plan_of a) (reduce a cap) found heads' up' down' tints' marks'
         run-rounds {k} {found} q ke o = subst (λ (X : Finding). Ended (plan_of a) X found heads' up' down' tints' marks') (sym same) o
           where
             same : reduce a cap ≡ rounds m k cap 0 (state_of ground)
             same =
                 finds
-                ∙ found_none (uncovered np (state_of ground)) _ _ (ap (λ (j : ℕ). column_or 0 (uncovered j (state_of ground))) me) q
+                ∙ found_none (uncovered np (state_of ground)) _ (q ∙ ap (λ (j : ℕ). item_told (uncovered j (state_of ground))) me)
                 ∙ sym (ap (λ (j : ℕ). rounds j k cap 0 (state_of ground)) me ∙ ap (λ (j : ℕ). rounds np j cap 0 (state_of ground)) ke)

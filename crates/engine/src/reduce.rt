@@ -15,7 +15,6 @@ use links::nodes::Nodes;
 use room::clear_room::clear_room;
 use rules::answer::Answer;
 use rules::lent::{Given, Results, Room};
-use rules::number::Item;
 
 // Thins out an accepted problem.
 pub fn reduce(given: &Given<u32>, room: &mut Room, results: &mut Results<u32>) -> Answer
@@ -41,7 +40,7 @@ pub fn reduce(given: &Given<u32>, room: &mut Room, results: &mut Results<u32>) -
     let answer = match run(&mut nodes, &mut *tints, &mut *marks, given) {
         Ok(done) => report(&nodes, &*tints, done, results),
         Err(stop) => Answer::Infeasible {
-            item: Item::from((stop.column - 1) as u32),
+            item: stop.item,
             cause: stop.cause,
             round: stop.round,
         },

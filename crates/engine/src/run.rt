@@ -31,9 +31,9 @@ pub fn run(
         nodes.new tints.new marks.new }
 {
     init_links(nodes, tints, marks, given);
-    if let Some(column) = uncovered(nodes) {
+    if let Some(item) = uncovered(nodes) {
         return Err(Infeasible {
-            column,
+            item,
             cause: Cause::Start,
             round: 0,
         });

@@ -1,12 +1,14 @@
 -- What an answer says of the number that it stands for: of a column, of a head's item, and of the end of a walk. Assumes nothing.
-use Rattle.std.proofs.Common.{◌≡◌, ℕ, zero, suc, refl, sym, ◌∙◌, ap, arith, rules, ◌≢◌, ◌<◌, is_some, true, false, ℤ, pos, negsuc, Option, Result, Some, None, Ok, Err}
+use Rattle.std.proofs.Common.{◌≡◌, ◌+◌, ℕ, zero, suc, refl, sym, ◌∙◌, ap, arith, rules, ◌≢◌, ◌<◌, is_some, true, false, ℤ, pos, negsuc, Option, Result, Some, None, Ok, Err}
 use mathlib.Core.Path.{subst}
+use Rattle.std.specs.Result.{result_and}
 use mathlib.Core.Bool.{true≢false}
 use Rattle.rules.specs.declared.number.Opt.{Opt}
 use Rattle.links.specs.Head.{item_of, option_of, below_zero}
 use Rattle.links.specs.Nodes.{column, column_in, option_in}
 use Rattle.links.specs.Ending.{ending}
 use Rattle.links.specs.declared.emptied.Emptied.{Emptied}
+use Rattle.rules.specs.declared.number.Item.{Item}
 
 pub column_none : (z : ℕ) → None ≡ column z → z ≡ 0
 column_none zero e = refl
@@ -40,13 +42,26 @@ pub ending_ok : (z : ℕ) → Ok tt ≡ ending z → z ≡ 0
 ending_ok zero e = refl
 ending_ok (suc i) e = search rules
 
-pub ending_err : (z : ℕ) (f : Emptied) → Err f ≡ ending z → (z ≡ f.column) × (0 < z)
+pub ending_err : (z : ℕ) (f : Emptied) → Err f ≡ ending z → z ≡ f.item.0 + 1
 ending_err zero f e = search rules
 ending_err (suc i) f e = search (rules, arith)
 
-pub ending_of : (i : ℕ) → 0 < i → Err (record { column = i }) ≡ ending i
-ending_of zero l = absurd (omega (arith, l))
-ending_of (suc i) l = refl
+pub ending_of : (i : ℕ) (k : Item) → k.0 + 1 ≡ i → Err (record { item = k }) ≡ ending i
+ending_of zero k l = absurd (omega (arith, l))
+ending_of (suc i) k l = let e : k.0 ≡ i = omega (arith, l) in ap (λ (j : ℕ). Err (record { item = record { 0 = j } })) e
+
+-- the earlier of two columns, where 0 says that there is none: so two endings come to one by `and`
+abbrev pub earlier : ℕ → ℕ → ℕ
+earlier zero b = b
+earlier (suc a) b = suc a
+
+pub earlier-first : (a b : ℕ) → 0 < a → earlier a b ≡ a
+earlier-first zero b l = absurd (omega (arith, l))
+earlier-first (suc a) b l = refl
+
+pub ending-and : {r s : Result (Unit {0}) Emptied} (a b : ℕ) → r ≡ ending a → s ≡ ending b → result_and r s ≡ ending (earlier a b)
+ending-and zero b e f = rw (e, f)
+ending-and (suc a) b e f = rw e
 
 -- and by the tests that ask only whether there is one
 pub option_is : {o : Option Opt} (h : ℤ) → o ≡ option_in h → is_some o ≡ below_zero h

@@ -1,7 +1,8 @@
-// What ends a walk that deletes.
+// What a deletion answers.
+use rules::number::Item;
 
-// A primary item that no option holds any more, by the number of its column.
+// A primary item that no option holds any more.
 #[derive(Clone, Copy, Debug, PartialEq, Eq)]
 pub struct Emptied {
-    pub column: usize,
+    pub item: Item,
 }

@@ -11,5 +11,6 @@
 
 pub mod column;
 pub mod emptied;
+pub mod item;
 pub mod lead;
 pub mod nodes;

@@ -1,5 +1,5 @@
 -- What a step comes to by the number of the column that it empties, 0 if it empties none; and the step's answer from it. Assumes nothing.
-use Rattle.std.proofs.Common.{◌≡◌, ◌≢◌, ◌-◌, ◌<◌, ℕ, ℤ, zero, suc, List, Bool, refl, sym, ap, arith, rules, Option, is_some, true, false, Ok, Err}
+use Rattle.std.proofs.Common.{◌≡◌, ◌≢◌, ◌+◌, ◌-◌, ℕ, ℤ, zero, suc, List, Bool, refl, sym, ap, arith, rules, Option, is_some, true, false, Ok, Err}
 use Rattle.rules.specs.declared.answer.Cause.{Cause}
 use Rattle.rules.specs.Paper.{cause_number}
 use Rattle.rules.specs.State.{State, Step, went, emptied}
@@ -17,7 +17,7 @@ pub stopping_ok : (z : ℕ) (cause : Cause) → Ok tt ≡ stopping z cause → z
 stopping_ok zero cause e = refl
 stopping_ok (suc i) cause e = search rules
 
-pub stopping_err : (z : ℕ) (cause : Cause) (s : Stop) → Err s ≡ stopping z cause → (z ≡ s.column) × (cause ≡ s.cause) × (0 < z)
+pub stopping_err : (z : ℕ) (cause : Cause) (s : Stop) → Err s ≡ stopping z cause → (z ≡ s.item.0 + 1) × (cause ≡ s.cause)
 stopping_err zero cause s e = search rules
 stopping_err (suc i) cause s e = search (rules, arith)
 
@@ -28,7 +28,8 @@ module _ {P : Plan} {step : Step} {z : ℕ} {cause : Cause} {removed : Bool} {he
   pub came_err : (s : Stop) → Err s ≡ stopping z cause → Stepped P step (Err s) heads up down tints marks
   came_err s e =
       let w = stopping_err z cause s e in
-      record { stops = (omega (arith, w.0, w.2), rw (sym w.0, sym w.1) (c.stops (omega (arith, w.2)))); goes = tt }
+      let i : z - 1 ≡ s.item.0 = omega (arith, w.0) in
+      record { stops = rw (sym i, sym w.1) (c.stops (omega (arith, w.0))); goes = tt }
 
 -- whether the tests found an option, by the end of the chain
 pub some-found : {o : Option ℕ} {z : ℕ} → o ≡ column z → z ≢ 0 → is_some o ≡ true

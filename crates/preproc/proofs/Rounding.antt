@@ -103,7 +103,7 @@ module _ {P : Plan} {first np n : ℕ} (f : Figured P first np) (m : n ≡ P.n) 
         pub round-stop : {stop : Stop} {heads' : List ℤ} {up' down' tints' marks' : List ℕ} → Stepped G.holding.ground.plan (item_step np i (state_of G.holding.ground)) (Err stop) heads' up' down' tints' marks'
             → Stepped P total (Err stop) heads' up' down' tints' marks'
         round-stop {stop} t = record {
-          stops = (t.stops.0, one_more ∙ steps-emptied np i (from (i + 1) (n - (i + 1))) G.state removed (stop.column - 1) (cause_number stop.cause) live (same_step ∙ t.stops.1));
+          stops = one_more ∙ steps-emptied np i (from (i + 1) (n - (i + 1))) G.state removed stop.item.0 (cause_number stop.cause) live (same_step ∙ t.stops);
           goes = tt;
         }
 
@@ -155,8 +155,8 @@ module _ {P : Plan} {first np n : ℕ} (f : Figured P first np) (m : n ≡ P.n) 
           ∙ ap (λ (k : ℕ). after_round x k (λ s'. rounds np n (cap - (r + 1)) k s')) (sym (add-one r))
 
       pub rounds-stop : {stop : Stop} {heads' : List ℤ} {up' down' tints' marks' : List ℕ} → Stepped G.holding.ground.plan (round np n (state_of G.holding.ground)) (Err stop) heads' up' down' tints' marks'
-          → Ended P total (Err (record { column = stop.column; cause = stop.cause; round = r + 1 })) heads' up' down' tints' marks'
-      rounds-stop t = record { stops = (t.stops.0, turn_more t.stops.1); goes = tt }
+          → Ended P total (Err (record { item = stop.item; cause = stop.cause; round = r + 1 })) heads' up' down' tints' marks'
+      rounds-stop t = record { stops = turn_more t.stops; goes = tt }
 
       pub rounds-settled : {heads' : List ℤ} {up' down' tints' marks' : List ℕ} → Stepped G.holding.ground.plan (round np n (state_of G.holding.ground)) (Ok false) heads' up' down' tints' marks'
           → Ended P total (Ok (record { rounds = r + 1; settled = true })) heads' up' down' tints' marks'

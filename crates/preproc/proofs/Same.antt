@@ -4,10 +4,8 @@ use mathlib.Core.Path.{subst}
 use Rattle.rules.specs.State.{Step}
 use Rattle.links.specs.Plan.{Plan}
 use Rattle.links.specs.Ground.{Ground}
-use Rattle.removing.specs.Deleting.{Deleted}
 use Rattle.removing.specs.Removing.{Removed}
-use Rattle.showing.specs.Showing.{deletes, condemned_at}
-use Rattle.condemning.specs.Search.{down_to, Tried}
+use Rattle.condemning.specs.Search.{Tried, Spared}
 use Rattle.preproc.specs.declared.stop.Stop.{Stop}
 use Rattle.preproc.specs.Standing.{Stepped}
 
@@ -18,9 +16,8 @@ module _ {g : Ground} {a b : ℕ} (e : a ≡ b) where
   pub tried-np : {i k z : ℕ} {tints marks : List ℕ} → Tried g i a k z tints marks → Tried g i b k z tints marks
   tried-np {i} {k} {z} {tints} {marks} t = subst (λ (n : ℕ). Tried g i n k z tints marks) e t
 
-  pub deleted-np : (i : ℕ) {z : ℕ} {heads : List ℤ} {up down : List ℕ} → Deleted g a (deletes g (down_to (condemned_at a i g) g.plan.N)) heads up down z
-      → Deleted g b (deletes g (down_to (condemned_at b i g) g.plan.N)) heads up down z
-  deleted-np i {z} {heads} {up} {down} d = subst (λ (k : ℕ). Deleted g k (deletes g (down_to (condemned_at k i g) g.plan.N)) heads up down z) e d
+  pub spared-np : {i z : ℕ} {heads : List ℤ} {up down : List ℕ} → Spared g i a heads up down z → Spared g i b heads up down z
+  spared-np {i} {z} {heads} {up} {down} d = subst (λ (k : ℕ). Spared g i k heads up down z) e d
 
 -- a step and its answer under other names
 pub restep : {P : Plan} {x y : Step} {r q : Result Bool Stop} {heads : List ℤ} {up down tints marks : List ℕ} → x ≡ y → r ≡ q

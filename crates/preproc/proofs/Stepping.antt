@@ -25,13 +25,12 @@ use Rattle.showing.proofs.Deleted.{deletes-fresh, deleted-ready, condemned-apart
 use Rattle.showing.proofs.ItemStep.{chosen_is, chosen_none, step-removes, removing-empties, step-deletes, deleting-empties}
 use Rattle.hiding.specs.Hiding.{Column, Taken}
 use Rattle.removing.specs.Removing.{Removing, Removed, removed}
-use Rattle.removing.specs.Deleting.{Deleted}
 use Rattle.removing.proofs.Staying.{stays→}
 use Rattle.condemning.specs.Marks.{Known}
-use Rattle.condemning.specs.Search.{down_to, Chain, Search, Hiding, Tried, Sparing}
+use Rattle.condemning.specs.Search.{down_to, Chain, Search, Hiding, Tried, Sparing, Spared}
 use Rattle.condemning.proofs.Chains.{down-reverse}
 use Rattle.condemning.proofs.Knowing.{known-pass}
-use Rattle.condemning.proofs.Sparing.{down-front}
+use Rattle.condemning.proofs.Sparing.{down-front, spared-all}
 use Rattle.rules.specs.declared.answer.Cause.TheVariants.{Redundant, Blocked}
 use Rattle.preproc.specs.Standing.{Standing, Figured}
 use Rattle.preproc.proofs.Coming.{Came}
@@ -40,12 +39,16 @@ use Rattle.preproc.proofs.Coming.{Came}
 pub held_same : {h : Ground} {heads heads' : List ℤ} {up up' down down' : List ℕ} → Holds h heads up down → heads' ≡ heads → up' ≡ up → down' ≡ down → Holds h heads' up' down'
 held_same w a b d = record { heads-are = a ∙ w.heads-are; up-are = b ∙ w.up-are; down-are = d ∙ w.down-are }
 
-module _ {g : Ground} (i : ℕ) {c first np : ℕ} {heads : List ℤ} {up down tints marks : List ℕ} (s : Standing g heads up down tints marks) (f : Figured g.plan first np) (e : c ≡ i + 1) (hd : Header g.plan c) where
+module _ {g : Ground} (i : ℕ) {c first np : ℕ} {heads : List ℤ} {up down tints marks : List ℕ}
+    (s : Standing g heads up down tints marks) (f : Figured g.plan first np) (e : c ≡ i + 1) (own : Header g.plan (i + 1)) where
   R : Ready g
   R = s.ready
 
   W : Planned g.plan
   W = s.ready.tidy.planned
+
+  hd : Header g.plan c
+  hd = rw e own
 
   -- hiding
   pub step-column : Column g tints c first
@@ -139,7 +142,7 @@ module _ {g : Ground} (i : ℕ) {c first np : ℕ} {heads : List ℤ} {up down t
                 ∙ lt-ltb 0 (suc (length (down_to (condemned_at np i g) x.0))) (omega arith)
                 ∙ sym (got (λ j. omega (arith, entry-from g.plan W x.0 m, l-is, j)))
 
-        module _ {heads₄ : List ℤ} {up₄ down₄ : List ℕ} {z : ℕ} (d : Deleted g np (deletes g (down_to (condemned_at np i g) g.plan.N)) heads₄ up₄ down₄ z) (b : Bool) (got : l ≢ 0 → b ≡ true) (nil : l ≡ 0 → b ≡ false) where
+        module _ {heads₄ : List ℤ} {up₄ down₄ : List ℕ} {z : ℕ} (d : Spared g i np heads₄ up₄ down₄ z) (b : Bool) (got : l ≢ 0 → b ≡ true) (nil : l ≡ 0 → b ≡ false) where
           apart : T (distinct (map g.plan.number (down_to (condemned_at np i g) g.plan.N)))
           apart = condemned-apart np i g (down_to (condemned_at np i g) g.plan.N) C
 
@@ -162,7 +165,7 @@ module _ {g : Ground} (i : ℕ) {c first np : ℕ} {heads : List ℤ} {up down t
                   known = known-pass g (after g (deletes g (down_to (condemned_at np i g) g.plan.N))) g.on (taken g (deletes g (down_to (condemned_at np i g) g.plan.N))).on marks₂ refl
                       (λ y o. (on-taken g (deletes g (down_to (condemned_at np i g) g.plan.N)) y o).0)
                       (λ y k m o ek j. taken-head g (deletes g (down_to (condemned_at np i g) g.plan.N)) R.tidy fresh k (entry-no-header g.plan W k ek)) t.known;
-                  holds = let w = d.holds x in record { heads-are = w.heads-are; up-are = w.up-are; down-are = w.down-are };
+                  holds = let w = spared-all d x in record { heads-are = w.heads-are; up-are = w.up-are; down-are = w.down-are };
                 };
               },
             );

@@ -1,6 +1,8 @@
 -- What the lists hold between an item's step and the next, and what a step, a round and the rounds come to, in the words of the rules.
 -- Assumes nothing.
-use Rattle.std.specs.Prelude.{ℕ, ◌-◌, ◌<◌, ◌≤◌, ◌≡◌, Bool, List, ℤ, Result, IfOk, IfErr}
+use Rattle.std.specs.Prelude.{ℕ, ◌≤◌, ◌≡◌, Bool, List, ℤ, Option as Optional, Some, None, Result, IfOk, IfErr}
+use Rattle.std.proofs.Math.Option.{Option, none, some}
+use Rattle.rules.specs.declared.number.Item.{Item}
 use Rattle.rules.specs.Paper.{cause_number}
 use Rattle.rules.specs.State.{State, Step, went, emptied}
 use Rattle.rules.specs.Rounds.{Finding, reduced, infeasible}
@@ -32,14 +34,14 @@ pub record Holding (P : Plan) (s : State) (heads : List ℤ) (up down tints mark
   pub shows : state_of ground ≡ s
   pub standing : Standing ground heads up down tints marks
 
--- A step's answer: an error if a primary item is left in no option, by its column, else whether something was removed.
+-- A step's answer: an error if a primary item is left in no option, else whether something was removed.
 pub record Stepped (P : Plan) (step : Step) (answer : Result Bool Stop) (heads : List ℤ) (up down tints marks : List ℕ) : Type 0 where
-  pub stops : IfErr answer (λ s. (0 < s.column) × (step ≡ emptied (s.column - 1) (cause_number s.cause)))
+  pub stops : IfErr answer (λ s. step ≡ emptied s.item.0 (cause_number s.cause))
   pub goes : IfOk answer (λ removed. (s : State) × (step ≡ went s removed) × Holding P s heads up down tints marks)
 
 -- The rounds' answer.
 pub record Ended (P : Plan) (finding : Finding) (answer : Result Done Infeasible) (heads : List ℤ) (up down tints marks : List ℕ) : Type 0 where
-  pub stops : IfErr answer (λ f. (0 < f.column) × (finding ≡ infeasible (f.column - 1) (cause_number f.cause) f.round))
+  pub stops : IfErr answer (λ f. finding ≡ infeasible f.item.0 (cause_number f.cause) f.round)
   pub goes : IfOk answer (λ d. (s : State) × (finding ≡ reduced s d.rounds d.settled) × Holding P s heads up down tints marks)
 
 -- The heads are those of a ground that is ready: enough to see which items are in no option.
@@ -47,3 +49,8 @@ pub record Looking (g : Ground) (np : ℕ) (heads : List ℤ) : Type 0 where
   pub ready : Ready g
   pub few : np ≤ g.plan.n
   pub heads-are : heads ≡ g.heads
+
+-- the item found by the rules, as the code tells it
+abbrev pub item_told : Option ℕ → Optional Item
+item_told none = None
+item_told (some q) = Some (record { 0 = q })

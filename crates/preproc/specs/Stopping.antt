@@ -5,4 +5,4 @@ use Rattle.preproc.specs.declared.stop.Stop.{Stop}
 
 abbrev pub stopping : ℕ → Cause → Result (Unit {0}) Stop
 stopping zero cause = Ok tt
-stopping (suc i) cause = Err (record { column = suc i; cause = cause })
+stopping (suc i) cause = Err (record { item = record { 0 = i }; cause = cause })

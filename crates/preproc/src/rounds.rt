@@ -2,14 +2,16 @@
 ghost use Rattle.std.specs.Prelude.{◌≡◌, ℕ};
 ghost use Rattle.rules.specs.Rounds.{uncovered as uncovered_in, round as round_of, rounds as rounds_of};
 ghost use Rattle.links.specs.Ground.{Ground};
-ghost use Rattle.links.specs.Nodes.{in_nodes, SameNodes, column};
-ghost use Rattle.showing.specs.Showing.{state_of, column_or};
-ghost use Rattle.preproc.specs.Standing.{Standing, Figured, Looking, Stepped, Ended};
+ghost use Rattle.links.specs.Nodes.{in_nodes, SameNodes};
+ghost use Rattle.showing.specs.Showing.{state_of};
+ghost use Rattle.preproc.specs.Standing.{Standing, Figured, Looking, item_told, Stepped, Ended};
 
 use crate::step::reduce_options;
 use crate::stop::Stop;
+use links::item::{column_of, item_of_column};
 use links::nodes::Nodes;
 use rules::answer::Cause;
+use rules::number::Item;
 
 // How many rounds were run, and whether the last one removed nothing.
 #[derive(Clone, Copy, Debug, PartialEq, Eq)]
@@ -18,21 +20,22 @@ pub struct Done {
     pub settled: bool,
 }
 
-// The column of a primary item that is left in no option, why, and in which round.
+// A primary item that is left in no option, why, and in which round.
 #[derive(Clone, Copy, Debug, PartialEq, Eq)]
 pub struct Infeasible {
-    pub column: usize,
+    pub item: Item,
     pub cause: Cause,
     pub round: u32,
 }
 
-// The column of the lowest primary item that is in no option.
-pub fn uncovered(nodes: &Nodes) -> Option<usize>
+// The lowest primary item that is in no option.
+pub fn uncovered(nodes: &Nodes) -> Option<Item>
     requires { (g : Ground) × Looking g nodes.now.np nodes.now.heads.now }
-    ensures { (g : Ground) → Looking g nodes.now.np nodes.now.heads.now → result ≡ column (column_or 0 (uncovered_in nodes.now.np (state_of g))) }
+    ensures { (g : Ground) → Looking g nodes.now.np nodes.now.heads.now → result ≡ item_told (uncovered_in nodes.now.np (state_of g)) }
 {
     // half open, since the library's law on `find` is of such ranges
-    (1..nodes.np + 1).find(|c| nodes.is_empty(*c))
+    let c = (1..nodes.np + 1).find(|c| nodes.is_empty(*c))?;
+    Some(item_of_column(c))
 }
 
 // Items upward, each one whose column is not empty then. Whether anything was removed.
@@ -45,9 +48,10 @@ pub fn round(nodes: &mut Nodes, tints: &mut [u32], marks: &mut [u32]) -> Result<
         → in_nodes (Stepped g.plan (round_of nodes.old.np nodes.old.n (state_of g)) result) nodes.new tints.new marks.new }
 {
     let mut removed = false;
-    for item in 0..nodes.n {
-        if !nodes.is_empty(item + 1) {
-            removed |= reduce_options(nodes, tints, marks, item + 1)?;
+    for number in 0..nodes.n as u32 {
+        let item = Item(number);
+        if !nodes.is_empty(column_of(item)) {
+            removed |= reduce_options(nodes, tints, marks, item)?;
         }
     }
     Ok(removed)
@@ -70,9 +74,9 @@ pub fn rounds(
     for run in 0..cap {
         // the three ends of a round, side by side
         match round(nodes, tints, marks) {
-            Err(Stop { column, cause }) => {
+            Err(Stop { item, cause }) => {
                 return Err(Infeasible {
-                    column,
+                    item,
                     cause,
                     round: run + 1,
                 });

@@ -5,11 +5,12 @@ ghost use Rattle.preproc.specs.Stopping.{stopping};
 
 use links::emptied::Emptied;
 use rules::answer::Cause;
+use rules::number::Item;
 
-// A primary item that is left in no option, by the number of its column, and why.
+// A primary item that is left in no option, and why.
 #[derive(Clone, Copy, Debug, PartialEq, Eq)]
 pub struct Stop {
-    pub column: usize,
+    pub item: Item,
     pub cause: Cause,
 }
 
@@ -18,7 +19,7 @@ pub fn because(ended: Result<(), Emptied>, cause: Cause) -> Result<(), Stop>
     ensures { (z : ℕ) → ended ≡ ending z → result ≡ stopping z cause }
 {
     ended.map_err(|emptied| Stop {
-        column: emptied.column,
+        item: emptied.item,
         cause,
     })
 }

@@ -1,5 +1,4 @@
--- Deleting an option's other entries one after another: each step of the walk, until a primary column is emptied or the walk is round.
--- Assumes nothing.
+-- Deleting an option's other entries one after another: each step of the walk, until it is round. Assumes nothing.
 use Prim.Native.Nat.{ℕ, ◌+◌, ◌<◌, ◌≤◌}
 use native.Mathlib.Omega.{arith}
 use mathlib.Core.Path.{◌≡◌, refl, ◌∙◌, ap, sym, subst}
@@ -20,9 +19,10 @@ use Rattle.links.proofs.Plans.{entry-till, header-before}
 use Rattle.links.proofs.Taken.{taken-append, taken-tidy, taken-head, taken-up-off, taken-lengths, within-taken, fresh-of, fresh-front}
 use Rattle.links.proofs.Rows.{At, place_in, walk_begins, walked_none, full-inside, full-entry, full-head, full_at, full-walked, full-way, over-at, over-walked, over-way, In-walked, others-In}
 use Rattle.links.proofs.Gathering.{others-distinct}
+use Rattle.links.proofs.Endings.{earlier}
 use Rattle.removing.specs.Deleting.{Sitting, Deleting, Deleted}
-use Rattle.removing.proofs.Emptying.{first_some, first-none}
 use Rattle.links.proofs.Ahead.{ahead, walked-ahead}
+use Rattle.removing.proofs.Emptying.{first-append}
 
 -- The place of a walk is no header, and a node with no item is in no column.
 module _ (g : Ground) (t : Tidy g) (p : ℕ) (e : EntryOf g.plan p) (nn : ℕ) (a : At g p nn) where
@@ -36,11 +36,11 @@ module _ (g : Ground) (t : Tidy g) (p : ℕ) (e : EntryOf g.plan p) (nn : ℕ) (
       go true o = ⊎_elim (λ h. absurd (place-no-header h)) (λ y. absurd (omega (arith, sym z ∙ ap item_of (t.full nn y o), (t.planned.entry nn y).above))) (t.masked nn o)
       go false o = refl
 
--- The walk is at q, and no primary column was emptied yet.
-pub record Midway (g : Ground) (r np : ℕ) (heads : List ℤ) (up down : List ℕ) (q : ℕ) : Type 0 where
+-- The walk is at q: the lists are those without what was passed, and z is the first primary column that this emptied.
+pub record Midway (g : Ground) (r np : ℕ) (heads : List ℤ) (up down : List ℕ) (q z : ℕ) : Type 0 where
   pub place : At g r q
   pub holds : Holds (taken g (walked g r q)) heads up down
-  pub none : first_out g np (walked g r q) ≡ 0
+  pub first : z ≡ first_out g np (walked g r q)
 
 module _ {g : Ground} {r : ℕ} {heads₀ : List ℤ} {up₀ down₀ : List ℕ} (d : Deleting g r heads₀ up₀ down₀) where
   t : Tidy g
@@ -62,14 +62,14 @@ module _ {g : Ground} {r : ℕ} {heads₀ : List ℤ} {up₀ down₀ : List ℕ}
   walked-fresh q a = fresh-front g (walked g r q) (ahead g r q) (subst (Fresh g) (walked-ahead g t r e q a) others-fresh)
 
   module _ {np : ℕ} where
-    pub begins : Midway g r np heads₀ up₀ down₀ (r + 1)
+    pub begins : Midway g r np heads₀ up₀ down₀ (r + 1) 0
     begins = record {
       place = walk_begins g t r e;
       holds = subst (λ (l : List ℕ). Holds (taken g l) heads₀ up₀ down₀) (sym (walked_none g t r e)) d.holds;
-      none = ap (first_out g np) (walked_none g t r e);
+      first = sym (ap (first_out g np) (walked_none g t r e));
     }
 
-    module _ {heads : List ℤ} {up down : List ℕ} {q : ℕ} (m : Midway g r np heads up down q) where
+    module _ {heads : List ℤ} {up down : List ℕ} {q z : ℕ} (m : Midway g r np heads up down q z) where
       fresh : Fresh g (walked g r q)
       fresh = walked-fresh q m.place
 
@@ -85,21 +85,21 @@ module _ {g : Ground} {r : ℕ} {heads₀ : List ℤ} {up₀ down₀ : List ℕ}
 
       module _ (other : q ≢ r) where
         -- at a boundary, or a shortened entry
-        module _ (z : item_of (head heads q) ≡ 0) where
+        module _ (none : item_of (head heads q) ≡ 0) where
           bare : item_of (head g.heads q) ≡ 0
-          bare = sym (ap item_of same_head) ∙ z
+          bare = sym (ap item_of same_head) ∙ none
 
           leads : at up q ≡ at g.up q
           leads = ap (λ (l : List ℕ). at l q) m.holds.up-are ∙ taken-up-off g (walked g r q) t fresh q (none-off g t r e q m.place bare)
 
-          pub midway-over : Midway g r np heads up down (at up q)
+          pub midway-over : Midway g r np heads up down (at up q) z
           midway-over =
               let s = over-walked g t r e q m.place other bare in
               rw leads
               (record {
                 place = over-at g t r e q m.place other bare;
                 holds = subst (λ (l : List ℕ). Holds (taken g l) heads up down) (sym s) m.holds;
-                none = ap (first_out g np) s ∙ m.none;
+                first = m.first ∙ sym (ap (first_out g np) s);
               })
 
           pub midway-over-way : way (length heads₀) r (at up q) < way (length heads₀) r q
@@ -111,7 +111,7 @@ module _ {g : Ground} {r : ℕ} {heads₀ : List ℤ} {up₀ down₀ : List ℕ}
         -- at an entry with an item
         module _ (n : item_of (head heads q) ≢ 0) where
           some : item_of (head g.heads q) ≢ 0
-          some z = n (ap item_of same_head ∙ z)
+          some e = n (ap item_of same_head ∙ e)
 
           pub midway-sits : Sitting (taken g (walked g r q)) q heads up down
           midway-sits =
@@ -127,29 +127,17 @@ module _ {g : Ground} {r : ℕ} {heads₀ : List ℤ} {up₀ down₀ : List ℕ}
           more : walked g r (q + 1) ≡ walked g r q ++ (q ∷ [])
           more = full-walked g t r e q m.place other some
 
-          module _ {heads' : List ℤ} {up' down' : List ℕ} {z : ℕ} (o : Deleted (taken g (walked g r q)) np (q ∷ []) heads' up' down' z) where
-            so_far : z ≡ first_out g np (walked g r (q + 1))
-            so_far = o.answer ∙ sym (first-none g np (walked g r q) (q ∷ []) t fresh m.none) ∙ ap (first_out g np) (sym more)
+          pub midway-next : {heads' : List ℤ} {up' down' : List ℕ} {y : ℕ} → Deleted (taken g (walked g r q)) np (q ∷ []) heads' up' down' y
+              → Midway g r np heads' up' down' (q + 1) (earlier z y)
+          midway-next {heads'} {up'} {down'} o = record {
+            place = full_at g t r e q m.place some;
+            holds = subst (λ (h : Ground). Holds h heads' up' down') (sym (taken-append g (walked g r q) (q ∷ [])) ∙ ap (taken g) (sym more)) o.holds;
+            first = rw (m.first, o.answer) (sym (first-append g np (walked g r q) (q ∷ []) t fresh) ∙ ap (first_out g np) (sym more));
+          }
 
-            pub midway-next : z ≡ 0 → Midway g r np heads' up' down' (q + 1)
-            midway-next s = record {
-              place = full_at g t r e q m.place some;
-              holds = subst (λ (h : Ground). Holds h heads' up' down') (sym (taken-append g (walked g r q) (q ∷ [])) ∙ ap (taken g) (sym more)) (o.holds s);
-              none = sym so_far ∙ s;
-            }
-
-            pub midway-stop : z ≢ 0 → Deleted g np (others g r) heads' up' down' z
-            midway-stop s = record {
-              answer =
-                  so_far
-                  ∙ sym (first_some g np (walked g r (q + 1)) (ahead g r (q + 1)) (λ u. s (so_far ∙ u)))
-                  ∙ ap (first_out g np) (sym (walked-ahead g t r e (q + 1) (full_at g t r e q m.place some)));
-              holds = λ u. absurd (s u);
-            }
-
-      pub midway-round : q ≡ r → Deleted g np (others g r) heads up down 0
+      pub midway-round : q ≡ r → Deleted g np (others g r) heads up down z
       unfolding others
       midway-round s = record {
-        answer = sym m.none ∙ ap (λ (k : ℕ). first_out g np (walked g r k)) s;
-        holds = λ _. subst (λ (k : ℕ). Holds (taken g (walked g r k)) heads up down) s m.holds;
+        answer = m.first ∙ ap (λ (k : ℕ). first_out g np (walked g r k)) s;
+        holds = subst (λ (k : ℕ). Holds (taken g (walked g r k)) heads up down) s m.holds;
       }

@@ -35,12 +35,12 @@ module _ (g : Ground) (r : ℕ) (heads : List ℤ) (up down : List ℕ) (d : Del
     unfolding shortened
     drop-shortens h a b c = record {
       answer = ap (λ (t : Bool). first_out g np (cond t [] (others g r))) h;
-      holds = λ _. subst (λ (t : Bool). Holds (cond t (shortened g r) (taken g (others g r))) heads' up' down') h
+      holds = subst (λ (t : Bool). Holds (cond t (shortened g r) (taken g (others g r))) heads' up' down') h
           (record { heads-are = a ∙ rw d.holds.heads-are; up-are = b ∙ rw d.holds.up-are; down-are = c ∙ rw d.holds.down-are });
     }
 
     pub drop-deletes : (z : ℕ) → false ≡ holds_other g r p → Deleted g np (others g r) heads' up' down' z → Dropped g np r p heads' up' down' z
     drop-deletes z h o = record {
       answer = o.answer ∙ ap (λ (t : Bool). first_out g np (cond t [] (others g r))) h;
-      holds = λ e. subst (λ (t : Bool). Holds (cond t (shortened g r) (taken g (others g r))) heads' up' down') h (o.holds e);
+      holds = subst (λ (t : Bool). Holds (cond t (shortened g r) (taken g (others g r))) heads' up' down') h o.holds;
     }

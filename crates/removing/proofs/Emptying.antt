@@ -12,6 +12,7 @@ use Rattle.links.specs.Plan.{Plan}
 use Rattle.links.specs.Ground.{Ground, tally, Tidy, cut_one, taken, Fresh}
 use Rattle.links.specs.Row.{others}
 use Rattle.links.specs.Taking.{length_of, empties_at, first_out, gather_to}
+use Rattle.links.proofs.Endings.{earlier, earlier-first}
 use Rattle.links.proofs.Stores.{same?}
 use Rattle.links.proofs.Grounds.{tidy-cut, length-is}
 
@@ -34,16 +35,19 @@ first-gather h np chosen g k (suc m) l n = ⊎_elim (λ (e : k ≡ suc m). ap (�
     more : k ≢ suc m → (k ≤ m → first_out h np (gather_to chosen g m) ≡ first_out h np (gather_to chosen g k)) → first_out h np (gather_to chosen g (suc m)) ≡ first_out h np (gather_to chosen g k)
     more d r = let e = r (omega arith) in first_some h np (gather_to chosen g m) (cond (chosen m) (others g m) []) (λ z. n (sym e ∙ z)) ∙ e
 
--- Where they empty none, it is the first of the rest.
-pub first-none : (g : Ground) (np : ℕ) (xs ys : List ℕ) → Tidy g → Fresh g xs → first_out g np xs ≡ 0 → first_out g np (xs ++ ys) ≡ first_out (taken g xs) np ys
-first-none g np [] ys t f e = refl
-first-none g np (x ∷ xs) ys t f e = go (empties_at g np x) e (first-none (cut_one g x) np xs ys (tidy-cut g t x f.0) f.1)
+-- By all it is the first of the first nodes' and the rest's; so where the first nodes empty none, it is the rest's.
+pub first-append : (g : Ground) (np : ℕ) (xs ys : List ℕ) → Tidy g → Fresh g xs → first_out g np (xs ++ ys) ≡ earlier (first_out g np xs) (first_out (taken g xs) np ys)
+first-append g np [] ys t f = refl
+first-append g np (x ∷ xs) ys t f = go (empties_at g np x) (first-append (cut_one g x) np xs ys (tidy-cut g t x f.0) f.1)
   where
-    go : (b : Bool) → cond b (g.plan.col x) (first_out (cut_one g x) np xs) ≡ 0
-        → (first_out (cut_one g x) np xs ≡ 0 → first_out (cut_one g x) np (xs ++ ys) ≡ first_out (taken (cut_one g x) xs) np ys)
-        → cond b (g.plan.col x) (first_out (cut_one g x) np (xs ++ ys)) ≡ first_out (taken (cut_one g x) xs) np ys
-    go true z r = absurd (omega (arith, z, (t.planned.entry x f.0.entry).above))
-    go false z r = r z
+    go : (b : Bool) → first_out (cut_one g x) np (xs ++ ys) ≡ earlier (first_out (cut_one g x) np xs) (first_out (taken (cut_one g x) xs) np ys)
+        → cond b (g.plan.col x) (first_out (cut_one g x) np (xs ++ ys))
+        ≡ earlier (cond b (g.plan.col x) (first_out (cut_one g x) np xs)) (first_out (taken (cut_one g x) xs) np ys)
+    go true r = sym (earlier-first (g.plan.col x) _ (t.planned.entry x f.0.entry).above)
+    go false r = r
+
+pub first-none : (g : Ground) (np : ℕ) (xs ys : List ℕ) → Tidy g → Fresh g xs → first_out g np xs ≡ 0 → first_out g np (xs ++ ys) ≡ first_out (taken g xs) np ys
+first-none g np xs ys t f e = first-append g np xs ys t f ∙ ap (λ (k : ℕ). earlier k (first_out (taken g xs) np ys)) e
 
 -- The same by plan and mask: which lists a tidy ground has does not matter.
 abbrev pub first_by : Plan → (ℕ → Bool) → ℕ → List ℕ → ℕ

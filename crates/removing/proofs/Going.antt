@@ -174,13 +174,10 @@ module _ (g : Ground) (R : Ready g) (c p np : ℕ) where
         -- what `delete_or_shorten` leaves is what is to be left when r is passed
         module _ (z : ℕ) (D : Dropped (midst g c p r heads up down) np r p heads' up' down' z) where
           went : z ≡ first_out (midst g c p r heads up down) np (cond (holds_column g (g.plan.number r) p) [] (others g r))
-          went = D.answer ∙ ap (λ (b : Bool). first_out (midst g c p r heads up down) np (cond b [] (others (midst g c p r heads up down) r))) held
-              ∙ ap (λ (l : List ℕ). first_out (midst g c p r heads up down) np (cond (holds_column g (g.plan.number r) p) [] l)) same-others
+          went = rw (held, same-others) at D.answer
 
-          left : z ≡ 0 → Holds (cond (holds_column g (g.plan.number r) p) (shortened (midst g c p r heads up down) r) (taken (midst g c p r heads up down) (others g r))) heads' up' down'
-          left e =
-              subst (λ (l : List ℕ). Holds (cond (holds_column g (g.plan.number r) p) (shortened (midst g c p r heads up down) r) (taken (midst g c p r heads up down) l)) heads' up' down') same-others
-              (subst (λ (b : Bool). Holds (cond b (shortened (midst g c p r heads up down) r) (taken (midst g c p r heads up down) (others (midst g c p r heads up down) r))) heads' up' down') held (D.holds e))
+          left : Holds (cond (holds_column g (g.plan.number r) p) (shortened (midst g c p r heads up down) r) (taken (midst g c p r heads up down) (others g r))) heads' up' down'
+          left = rw (held, same-others) at D.holds
 
           pub passed_first : z ≡ first_out (off_column g c) np (going g c p (r + 1))
           passed_first = go (holds_column g (g.plan.number r) p) refl went
@@ -190,7 +187,7 @@ module _ (g : Ground) (R : Ready g) (c p np : ℕ) where
               go false n w = w ∙ going-first n
 
           pub passed-going : z ≡ 0 → RemovalAt g c p np heads' up' down' (r + 1)
-          passed-going e = go (holds_column g (g.plan.number r) p) refl went (left e)
+          passed-going e = go (holds_column g (g.plan.number r) p) refl went left
             where
               go : (b : Bool) → holds_column g (g.plan.number r) p ≡ b → z ≡ first_out (midst g c p r heads up down) np (cond b [] (others g r))
                   → Holds (cond b (shortened (midst g c p r heads up down) r) (taken (midst g c p r heads up down) (others g r))) heads' up' down' → RemovalAt g c p np heads' up' down' (r + 1)

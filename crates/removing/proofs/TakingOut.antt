@@ -40,8 +40,8 @@ module _ {g : Ground} {x : ℕ} {heads : List ℤ} {up down : List ℕ} (s : Sit
     pub sits-item : i ≡ g.plan.col x
     sits-item = read ∙ ap (λ (l : List ℤ). item_of (head l x)) s.holds.heads-are ∙ ap item_of (t.full x w.entry w.on)
 
-    pub sits-some : 0 < i
-    sits-some = rw sits-item (t.planned.entry x w.entry).above
+    pub sits-column : (0 < i) × (i < node_bound)
+    sits-column = let h = t.planned.entry x w.entry in rw sits-item (h.above, omega (arith, h.below, t.planned.room, t.planned.small))
 
     pub sits-length : (i < length heads) × (item_of (head heads i) < node_bound) × (0 < item_of (head heads i))
     sits-length = rw (sits-item, s.holds.heads-are) (col-in g t x w, length-small g t x w, length_some g t x w)
@@ -61,10 +61,10 @@ module _ {g : Ground} {x : ℕ} {heads : List ℤ} {up down : List ℕ} (s : Sit
 
       -- the column is emptied, and primary, or it is not
       pub out-emptied : {np k : ℕ} → k ≡ item_of (head heads i) - 1 → k ≡ 0 → leb i np ≡ true → Deleted g np (x ∷ []) heads' up' down' i
-      out-emptied {np} {k} e z l = record { answer = sym (out_first np e ∙ rw (eq-eqb k 0 z, l)); holds = λ _. out-holds }
+      out-emptied {np} {k} e z l = record { answer = sym (out_first np e ∙ rw (eq-eqb k 0 z, l)); holds = out-holds }
 
       pub out-not : {np k : ℕ} → k ≡ item_of (head heads i) - 1 → (k ≢ 0) ⊎ (leb i np ≡ false) → Deleted g np (x ∷ []) heads' up' down' 0
-      out-not {np} {k} e n = record { answer = sym (out_first np e ∙ ⊎_elim (λ a. rw (ne_eqb k 0 a)) (λ a. last (eqb k 0) a) n); holds = λ _. out-holds }
+      out-not {np} {k} e n = record { answer = sym (out_first np e ∙ ⊎_elim (λ a. rw (ne_eqb k 0 a)) (λ a. last (eqb k 0) a) n); holds = out-holds }
         where
           last : (b : Bool) → leb i np ≡ false → cond (b && leb i np) i 0 ≡ 0
           last true q = rw q

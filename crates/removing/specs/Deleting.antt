@@ -19,7 +19,7 @@ pub record Deleting (g : Ground) (r : ℕ) (heads : List ℤ) (up down : List �
   pub others-in : (y : ℕ) → In y (others g r) → Within g y
   pub holds : Holds g heads up down
 
--- The nodes xs were taken out: the answer is the first primary column that this empties; if there is none, the lists are those without xs.
+-- The nodes xs were taken out: the lists are those without xs, and the answer is the first primary column that this emptied.
 pub record Deleted (g : Ground) (np : ℕ) (xs : List ℕ) (heads : List ℤ) (up down : List ℕ) (z : ℕ) : Type 0 where
   pub answer : z ≡ first_out g np xs
-  pub holds : z ≡ 0 → Holds (taken g xs) heads up down
+  pub holds : Holds (taken g xs) heads up down

@@ -30,9 +30,10 @@ dropping g r p = cond (holds_other g r p) [] (others g r)
 abbrev pub dropped : Ground → ℕ → ℕ → Ground
 dropped g r p = cond (holds_other g r p) (shortened g r) (taken g (others g r))
 
+-- The option lost what it was to lose, and the answer is the first primary column that this emptied.
 pub record Dropped (g : Ground) (np r p : ℕ) (heads : List ℤ) (up down : List ℕ) (z : ℕ) : Type 0 where
   pub answer : z ≡ first_out g np (dropping g r p)
-  pub holds : z ≡ 0 → Holds (dropped g r p) heads up down
+  pub holds : Holds (dropped g r p) heads up down
 
 -- Item c is to be removed, and p is another (columns); entries have numbers from `first` on.
 pub record Removing (g : Ground) (c p first : ℕ) (heads : List ℤ) (up down : List ℕ) : Type 0 where

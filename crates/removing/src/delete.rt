@@ -1,4 +1,4 @@
-// Deleting an option: its entries leave their columns, and the first primary item that loses its last option ends it.
+// Deleting an option: all its entries leave their columns, and the answer is the first primary item that loses its last option.
 ghost use Rattle.std.specs.Prelude.{◌≡◌, List, [], ◌∷◌, ◌++◌, ℕ};
 ghost use Rattle.links.specs.Ending.{ending};
 ghost use Rattle.links.specs.Ground.{Ground, Within};
@@ -7,6 +7,7 @@ ghost use Rattle.links.specs.Row.{others};
 ghost use Rattle.removing.specs.Deleting.{Sitting, Deleting, Deleted};
 
 use links::emptied::Emptied;
+use links::item::item_of_column;
 use links::nodes::Nodes;
 
 // Takes entry x out of its column; an error if that empties it and its item is primary.
@@ -20,19 +21,22 @@ pub fn take_out(nodes: &mut Nodes, x: usize) -> Result<(), Emptied>
     let i = nodes.column_at(x);
     nodes.unlink(x);
     if nodes.fewer(i) == 0 && i <= nodes.np {
-        return Err(Emptied { column: i });
+        return Err(Emptied {
+            item: item_of_column(i),
+        });
     }
     Ok(())
 }
 
-// Takes every entry of r's option but r itself out of its column, in cyclic order from the entry after r, until a primary column is
-// emptied.
+// Takes every entry of r's option but r itself out of its column, in cyclic order from the entry after r; an error with the first primary item that
+// this empties.
 pub fn delete_others(nodes: &mut Nodes, r: usize) -> Result<(), Emptied>
     requires { (g : Ground) × in_nodes (Deleting g r) nodes.old }
     ensures nodes { SameNodes nodes.old nodes.new }
     ensures deleted { (g : Ground) → in_nodes (Deleting g r) nodes.old
         → (z : ℕ) × (result ≡ ending z) × in_nodes (Deleted g nodes.old.np (others g r)) nodes.new z }
 {
+    let mut ended = Ok(());
     let mut q = r + 1;
     // a walk along links: each node says which is next
     while q != r {
@@ -40,21 +44,23 @@ pub fn delete_others(nodes: &mut Nodes, r: usize) -> Result<(), Emptied>
             // a boundary, or an entry that was shortened: the link up leads on
             None => q = nodes.above(q),
             Some(_) => {
-                take_out(nodes, q)?;
+                // `and` keeps the first error, and the walk goes on
+                ended = ended.and(take_out(nodes, q));
                 q += 1;
             }
         }
     }
-    Ok(())
+    ended
 }
 
-// Deletes r's option: the other entries first, r last.
+// Deletes r's option, to its end: the other entries first, r last.
 pub fn really_delete_option(nodes: &mut Nodes, r: usize) -> Result<(), Emptied>
     requires { (g : Ground) × in_nodes (Deleting g r) nodes.old × Within g r }
     ensures nodes { SameNodes nodes.old nodes.new }
     ensures deleted { (g : Ground) → in_nodes (Deleting g r) nodes.old → Within g r
         → (z : ℕ) × (result ≡ ending z) × in_nodes (Deleted g nodes.old.np (others g r ++ (r ∷ []))) nodes.new z }
 {
-    delete_others(nodes, r)?;
-    take_out(nodes, r)
+    let others = delete_others(nodes, r);
+    let own = take_out(nodes, r);
+    others.and(own)
 }

@@ -1,10 +1,10 @@
 -- `engine::reduce::reduce` meets its contract. Assumes nothing.
-use Rattle.std.proofs.Common.{◌≡◌, ◌+◌, rules, arith, refl, ◌∙◌, ap}
+use Rattle.std.proofs.Common.{◌≡◌, rules, refl, ◌∙◌, ap}
 use Rattle.rules.specs.Lent.{room_in}
 use Rattle.rules.specs.Outcome.{cleared}
 use Rattle.rules.specs.Rooms.{room_lists}
 use Rattle.room.proofs.Clearing.{cleared-alike}
-use Rattle.engine.proofs.Concluding.{takes, call-buildable, stop-small, call-infeasible, call-reported, call-reduced}
+use Rattle.engine.proofs.Concluding.{takes, call-buildable, call-infeasible, call-reported, call-reduced}
 use Rattle.engine.proofs.reduce.reduce.Goals as goal
 use Rattle.engine.proofs.reduce.reduce.Goals.{After-clear_room, in-Ok, in-Err}
 
@@ -31,18 +31,6 @@ report-answer-requires c =
     let o = (rw c.in-Ok.is at (c.run.ensures.found _ _ (call-buildable e))).goes in
     (o.2.ground, call-reported e c.run.new.nodes n.np n.n o.1 o.2)
 
-pub overflow_sub-stop : goal.overflow_sub-stop
-overflow_sub-stop c =
-    let e = takes _ c.requires in
-    let o = (rw c.in-Err.is at (c.run.ensures.found _ _ (call-buildable e))).stops in
-    omega (arith, o.0)
-
-pub overflow_cast-stop : goal.overflow_cast-stop
-overflow_cast-stop c =
-    let e = takes _ c.requires in
-    let o = (rw c.in-Err.is at (c.run.ensures.found _ _ (call-buildable e))).stops in
-    omega (arith, stop-small e o.1)
-
 pub returns-clause-outcome : goal.returns-clause-outcome
 returns-clause-outcome c =
     let e = takes _ c.requires in
@@ -53,5 +41,5 @@ returns-clause-outcome c =
           let o = (rw w.in-Ok.is at f).goes in
           rw (w.answer-is, w.results-is)
           (call-reduced e c.run.new.nodes n.np n.n o.1 o.2 (w.report-answer.ensures.reported o.2.ground (call-reported e c.run.new.nodes n.np n.n o.1 o.2)) (zeros c))
-      | in-Err w ↦ rw (w.answer-is, w.results-is, w.from.ensures) (call-infeasible e (rw w.in-Err.is at f).stops.1 refl (zeros c))
+      | in-Err w ↦ rw (w.answer-is, w.results-is) (call-infeasible e (rw w.in-Err.is at f).stops refl (zeros c))
     ]

@@ -1,6 +1,5 @@
 -- `engine::run::run` meets its contract. Assumes nothing.
-use Rattle.std.proofs.Common.{ℕ, ◌+◌, arith, ◌∙◌, sym, ap}
-use Rattle.links.proofs.Endings.{column_none, column_some}
+use Rattle.std.proofs.Common.{ℕ, ◌+◌, ◌∙◌, sym, ap}
 use Rattle.engine.proofs.Running.{built-standing, built-figured, built-items, built-looking, run-uncovered, run-rounds}
 use Rattle.engine.proofs.run.run.Goals as goal
 
@@ -12,8 +11,7 @@ returns-in-Some-clause-found c =
     let n = c.init_links.ensures.nodes in
     λ f ns b.
     let w = c.init_links.ensures.lists f ns b in
-    let s = column_some _ _ (sym c.in-Some.is ∙ c.uncovered.ensures _ (built-looking b w n.np)) in
-    run-uncovered b w _ n.np (sym s.0) (omega (arith, s))
+    run-uncovered b w _ n.np (sym c.in-Some.is ∙ c.uncovered.ensures _ (built-looking b w n.np))
 
 pub rounds-requires : goal.rounds-requires
 rounds-requires c =
@@ -27,6 +25,5 @@ returns-clause-found c =
     let n = c.init_links.ensures.nodes in
     λ f ns b.
     let w = c.init_links.ensures.lists f ns b in
-    let z = column_none _ (sym c.in_default.is ∙ c.uncovered.ensures _ (built-looking b w n.np)) in
-    run-rounds b w _ n.np z n.n
+    run-rounds b w _ n.np (sym c.in_default.is ∙ c.uncovered.ensures _ (built-looking b w n.np)) n.n
     (c.rounds.ensures.rounds _ (built-standing b w c.init_links.auto.marks) (built-figured b w (c.init_links.new.nodes.begins ∙ ap (λ (k : ℕ). k + 2) n.n) n.np) (built-items b w n.n))

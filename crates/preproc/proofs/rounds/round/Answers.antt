@@ -1,5 +1,5 @@
 -- `preproc::rounds::round` meets its contract: at each item the rest of the round is the rules' rest. Assumes nothing.
-use Rattle.std.proofs.Common.{◌≡◌, ◌≢◌, ◌+◌, ℕ, rules, arith, refl, ap, Err}
+use Rattle.std.proofs.Common.{◌≡◌, ◌≢◌, ◌+◌, ℕ, rules, arith, ap, Err}
 use Rattle.rules.specs.Rounds.{item_step}
 use Rattle.links.specs.Head.{item_of, head}
 use Rattle.links.proofs.SameNodes.{same-refl, same-then}
@@ -9,51 +9,51 @@ use Rattle.preproc.proofs.Rounding.{round-begin, round-over, round-end, round-st
 use Rattle.preproc.proofs.rounds.round.Goals as goal
 use Rattle.preproc.proofs.rounds.round.Goals.{then-not-is_empty+in_ok-removed, else-not-is_empty}
 
-pub loop-item-init : goal.loop-item-init
-loop-item-init c = (same-refl c.args.nodes.now, λ g s f m. round-begin _ _ s)
+pub loop-number-init : goal.loop-number-init
+loop-number-init c = (same-refl c.args.nodes.now, λ g s f m. round-begin _ _ s)
 
 pub is_empty-requires : goal.is_empty-requires
-is_empty-requires c = let q = c.requires in round-in q.2 q.3 (c.loop-item.invariant.1 q.0 q.1 q.2 q.3) c.loop-item-test.true
+is_empty-requires c = let q = c.requires in rw c.column_of.ensures (round-in q.2 q.3 (c.loop-number.invariant.1 q.0 q.1 q.2 q.3) c.loop-number-test.true)
 
 pub reduce_options-requires : goal.reduce_options-requires
 reduce_options-requires c =
     let q = c.requires in
-    let t = c.loop-item-test.true in
-    let G = c.loop-item.invariant.1 q.0 q.1 q.2 q.3 in
-    (G.holding.ground, c.loop-item.item, round-standing q.2 q.3 G t, rw (c.loop-item.invariant.0.start, c.loop-item.invariant.0.np) (round-figured q.2 q.3 G t), refl, round-header q.2 q.3 G t)
+    let t = c.loop-number-test.true in
+    let G = c.loop-number.invariant.1 q.0 q.1 q.2 q.3 in
+    (G.holding.ground, round-standing q.2 q.3 G t, rw (c.loop-number.invariant.0.start, c.loop-number.invariant.0.np) (round-figured q.2 q.3 G t), round-header q.2 q.3 G t)
 
 pub returns-in_err-removed-clause-round : goal.returns-in_err-removed-clause-round
 returns-in_err-removed-clause-round c =
     let is : c.from_residual.result ≡ Err c.in_err-removed.field-0.0 = search rules in
-    let some : item_of (head c.loop-item.nodes.heads.now (c.loop-item.item + 1)) ≢ 0 = search rules in
-    let v = c.loop-item.invariant.0 in
-    let t = c.loop-item-test.true in
+    let some : item_of (head c.loop-number.nodes.heads.now (c.loop-number.number + 1)) ≢ 0 = search rules in
+    let v = c.loop-number.invariant.0 in
+    let t = c.loop-number-test.true in
     λ g s f m.
-    let G = c.loop-item.invariant.1 g s f m in
-    let o = c.reduce_options.ensures.step G.holding.ground c.loop-item.item (round-standing f m G t) (rw (v.start, v.np) (round-figured f m G t)) refl (round-header f m G t) in
-    rw is (round-stop f m G t some (restep (ap (λ (k : ℕ). item_step k c.loop-item.item (state_of G.holding.ground)) v.np) c.in_err-removed.was o))
+    let G = c.loop-number.invariant.1 g s f m in
+    let o = c.reduce_options.ensures.step G.holding.ground (round-standing f m G t) (rw (v.start, v.np) (round-figured f m G t)) (round-header f m G t) in
+    rw is (round-stop f m G t some (restep (ap (λ (k : ℕ). item_step k c.loop-number.number (state_of G.holding.ground)) v.np) c.in_err-removed.was o))
 
-pub loop-item-preserved : goal.loop-item-preserved
-loop-item-preserved c = (
+pub loop-number-preserved : goal.loop-number-preserved
+loop-number-preserved c = (
   elim c.if-not-is_empty.branch [
-    | then-not-is_empty+in_ok-removed w ↦ rw w.nodes-is (same-then c.loop-item.invariant.0 w.reduce_options.ensures.nodes)
-    | else-not-is_empty w ↦ rw w.nodes-is c.loop-item.invariant.0
+    | then-not-is_empty+in_ok-removed w ↦ rw w.nodes-is (same-then c.loop-number.invariant.0 w.reduce_options.ensures.nodes)
+    | else-not-is_empty w ↦ rw w.nodes-is c.loop-number.invariant.0
   ],
   λ g s f m.
-      let v = c.loop-item.invariant.0 in
-      let t = c.loop-item-test.true in
-      let G = c.loop-item.invariant.1 g s f m in
+      let v = c.loop-number.invariant.0 in
+      let t = c.loop-number-test.true in
+      let G = c.loop-number.invariant.1 g s f m in
       elim c.if-not-is_empty.branch [
         | then-not-is_empty+in_ok-removed w ↦
-            let some : item_of (head c.loop-item.nodes.heads.now (c.loop-item.item + 1)) ≢ 0 = search rules in
-            let o = w.reduce_options.ensures.step G.holding.ground c.loop-item.item (round-standing f m G t) (rw (v.start, v.np) (round-figured f m G t)) refl (round-header f m G t) in
+            let some : item_of (head c.loop-number.nodes.heads.now (c.loop-number.number + 1)) ≢ 0 = search rules in
+            let o = w.reduce_options.ensures.step G.holding.ground (round-standing f m G t) (rw (v.start, v.np) (round-figured f m G t)) (round-header f m G t) in
             rw (w.nodes-is, w.tints-is, w.marks-is, w.removed-is)
-            (round-next f m G t some (restep (ap (λ (k : ℕ). item_step k c.loop-item.item (state_of G.holding.ground)) v.np) w.in_ok-removed.was o))
+            (round-next f m G t some (restep (ap (λ (k : ℕ). item_step k c.loop-number.number (state_of G.holding.ground)) v.np) w.in_ok-removed.was o))
         | else-not-is_empty w ↦
-            let none : item_of (head c.loop-item.nodes.heads.now (c.loop-item.item + 1)) ≡ 0 = search rules in
+            let none : item_of (head c.loop-number.nodes.heads.now (c.loop-number.number + 1)) ≡ 0 = search rules in
             rw (w.nodes-is, w.tints-is, w.marks-is, w.removed-is) (round-over f m G t none)
       ],
 )
 
 pub returns-clause-round : goal.returns-clause-round
-returns-clause-round c = λ g s f m. round-end f m (c.loop-item.invariant.1 g s f m) (omega arith)
+returns-clause-round c = λ g s f m. round-end f m (c.loop-number.invariant.1 g s f m) (omega arith)

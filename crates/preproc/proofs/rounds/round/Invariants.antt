@@ -8,10 +8,10 @@ use Rattle.preproc.specs.Standing.{Standing, Figured}
 use Rattle.preproc.proofs.Rounding.{RoundAt}
 use Rattle.preproc.proofs.rounds.round.Given as goal
 
-abbrev pub invariant-loop-item : goal.invariant-loop-item
-invariant-loop-item l =
+abbrev pub invariant-loop-number : goal.invariant-loop-number
+invariant-loop-number l =
     let n = l.fn.nodes in
     let m = l.nodes in
     SameNodes n m
     × ((g : Ground) → Standing g n.heads.now n.up.now n.down.now l.fn.tints l.fn.marks → Figured g.plan n.start n.np → n.n ≡ g.plan.n
-    → RoundAt g.plan (round_of n.np n.n (state_of g)) n.np n.n l.item l.removed m.heads.now m.up.now m.down.now l.tints l.marks)
+    → RoundAt g.plan (round_of n.np n.n (state_of g)) n.np n.n l.number l.removed m.heads.now m.up.now m.down.now l.tints l.marks)

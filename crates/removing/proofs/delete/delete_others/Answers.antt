@@ -1,15 +1,15 @@
--- `removing::delete::delete_others` meets its contract: at each place of the walk the lists are those without what was passed, and no primary
--- column was emptied yet. Assumes nothing.
-use Rattle.std.proofs.Common.{◌≡◌, ◌≢◌, ℕ, [], ◌∷◌, rules, arith, refl, ◌∙◌, sym}
+-- `removing::delete::delete_others` meets its contract: at each place of the walk the lists are those without what was passed, and the first primary
+-- column that this emptied is remembered. Assumes nothing.
+use Rattle.std.proofs.Common.{◌≡◌, ◌≢◌, ℕ, [], ◌∷◌, arith, ◌∙◌, sym}
 use Rattle.links.specs.Ending.{ending}
 use Rattle.links.specs.Ground.{Ground, taken}
 use Rattle.links.specs.Head.{item_of, head}
 use Rattle.links.specs.Nodes.{in_nodes}
 use Rattle.links.specs.Row.{walked}
-use Rattle.links.proofs.Endings.{item_none, item_some, ending_err, at_ok}
+use Rattle.links.proofs.Endings.{item_none, item_some, earlier, ending-and}
 use Rattle.links.proofs.SameNodes.{same-then}
 use Rattle.removing.specs.Deleting.{Sitting, Deleting, Deleted}
-use Rattle.removing.proofs.Deletes.{midway-over, midway-over-way, midway-sits, midway-stop, midway-next, midway-round}
+use Rattle.removing.proofs.Deletes.{midway-over, midway-over-way, midway-sits, midway-next, midway-round}
 use Rattle.removing.proofs.delete.delete_others.Goals as goal
 use Rattle.removing.proofs.delete.delete_others.Goals.{In-None, In-Some, After-take_out}
 
@@ -21,35 +21,35 @@ some : (c : In-Some) → item_of (head c.loop-q.nodes.heads.now c.loop-q.q) ≢ 
 some c = omega (arith, item_some _ _ (sym c.in-Some.is ∙ c.column.ensures))
 
 sits : (c : In-Some) (g : Ground) → in_nodes (Deleting g c.args.r) c.args.nodes.now → in_nodes (Sitting (taken g (walked g c.args.r c.loop-q.q)) c.loop-q.q) c.loop-q.nodes
-sits c g d = midway-sits d (c.loop-q.invariant.1 g d) c.loop-q-test.true (some c)
+sits c g d = midway-sits d (c.loop-q.invariant.1 g d).2 c.loop-q-test.true (some c)
 
 taken_out : (c : After-take_out) (g : Ground) → in_nodes (Sitting (taken g (walked g c.args.r c.loop-q.q)) c.loop-q.q) c.loop-q.nodes
     → (z : ℕ) × (c.take_out.result ≡ ending z) × in_nodes (Deleted (taken g (walked g c.args.r c.loop-q.q)) c.args.nodes.now.np (c.loop-q.q ∷ [])) c.take_out.new.nodes z
 taken_out c g s = rw c.loop-q.invariant.0.np at (c.take_out.ensures.deleted (taken g (walked g c.args.r c.loop-q.q)) s)
 
 pub loop-q-smaller-in-None : goal.loop-q-smaller-in-None
-loop-q-smaller-in-None c = rw c.above-q.ensures.node (midway-over-way c.requires.1 (c.loop-q.invariant.1 c.requires.0 c.requires.1) c.loop-q-test.true (bare (goal.at.loop-q-smaller-in-None c).In-None))
+loop-q-smaller-in-None c =
+    rw c.above-q.ensures.node (midway-over-way c.requires.1 (c.loop-q.invariant.1 c.requires.0 c.requires.1).2 c.loop-q-test.true (bare (goal.at.loop-q-smaller-in-None c).In-None))
 
 pub loop-q-preserved-in-None : goal.loop-q-preserved-in-None
-loop-q-preserved-in-None c = (c.loop-q.invariant.0, λ g d. rw c.above-q.ensures.node (midway-over d (c.loop-q.invariant.1 g d) c.loop-q-test.true (bare (goal.at.loop-q-preserved-in-None c).In-None)))
+loop-q-preserved-in-None c =
+    let none = bare (goal.at.loop-q-preserved-in-None c).In-None in (
+      c.loop-q.invariant.0,
+      λ g d. let m = c.loop-q.invariant.1 g d in (m.0, m.1, rw c.above-q.ensures.node (midway-over d m.2 c.loop-q-test.true none)),
+    )
 
 pub take_out-requires : goal.take_out-requires
 take_out-requires c = (taken c.requires.0 (walked c.requires.0 c.args.r c.loop-q.q), sits (goal.at.take_out-requires c).In-Some c.requires.0 c.requires.1)
-
-pub returns-in_err-take_out-in-Some-clause-deleted : goal.returns-in_err-take_out-in-Some-clause-deleted
-returns-in_err-take_out-in-Some-clause-deleted c =
-    let a = goal.at.returns-in_err-take_out-in-Some-clause-deleted c in
-    let same : c.from_residual.result ≡ c.take_out.result = search rules in
-    λ g d.
-    let o = taken_out a.After-take_out g (sits a.In-Some g d) in
-    (o.0, same ∙ o.1, midway-stop d (c.loop-q.invariant.1 g d) c.loop-q-test.true (some a.In-Some) o.2 (omega (arith, ending_err o.0 _ (sym c.in_err-take_out-in-Some.was ∙ o.1))))
 
 pub loop-q-preserved : goal.loop-q-preserved
 loop-q-preserved c =
     let a = goal.at.loop-q-preserved c in (
       same-then c.loop-q.invariant.0 c.take_out.ensures.nodes,
-      λ g d. midway-next d (c.loop-q.invariant.1 g d) c.loop-q-test.true (some a.In-Some) (at_ok (taken_out a.After-take_out g (sits a.In-Some g d)) c.in_ok-take_out-in-Some.was) refl,
+      λ g d.
+          let m = c.loop-q.invariant.1 g d in
+          let o = taken_out a.After-take_out g (sits a.In-Some g d) in
+          (earlier m.0 o.0, c.and-ended.ensures ∙ ending-and m.0 o.0 m.1 o.1, midway-next d m.2 c.loop-q-test.true (some a.In-Some) o.2),
     )
 
 pub returns-clause-deleted : goal.returns-clause-deleted
-returns-clause-deleted c = λ g d. (0, refl, midway-round d (c.loop-q.invariant.1 g d) c.loop-q-test.false)
+returns-clause-deleted c = λ g d. let m = c.loop-q.invariant.1 g d in (m.0, m.1, midway-round d m.2 c.loop-q-test.false)
