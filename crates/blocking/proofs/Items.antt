@@ -3,7 +3,7 @@ use Prim.Native.Nat.{ℕ, ◌+◌, ◌<◌}
 use native.Mathlib.Omega.{arith}
 use mathlib.Core.Path.{◌≡◌, refl, ◌∙◌, ap, sym, subst}
 use mathlib.Core.Logic.{◌≢◌}
-use mathlib.Core.Bool.{true}
+use mathlib.Core.Bool.{Bool, true}
 use mathlib.Core.List.{List, []}
 use lib.ListN.{length}
 use lib.IntN.{ℤ}
@@ -16,12 +16,13 @@ use Rattle.links.specs.Row.{walked}
 use Rattle.links.specs.Way.{way, reach}
 use Rattle.links.specs.Nodes.{column_in}
 use Rattle.links.proofs.Endings.{item_none, item_some}
-use Rattle.links.specs.Taking.{testing}
+use Rattle.links.specs.Taking.{in_column, rival_at, testing}
 use Rattle.links.proofs.Plans.{header-before}
 use Rattle.links.proofs.Rows.{At, walk_begins, walked_none}
 use Rattle.blocking.specs.Forward.{Test, Stage, out_at, ground_at, Outer, AtItem, rivals_to, Middle}
 use Rattle.links.proofs.Taken.{taken-header}
-use Rattle.blocking.proofs.Columns.{none-gathered, down-on, down-col, down-gathered}
+use Rattle.links.proofs.Descending.{Stand}
+use Rattle.links.proofs.Passing.{rival-inside, Spared, spared-none, gathered-none, down-stand, down-gathered}
 use Rattle.links.proofs.Onward as Onward
 use Rattle.links.proofs.Onward.{Underway}
 use Rattle.blocking.proofs.Stages.{stage-none, item-entry, ground-tidy}
@@ -117,21 +118,30 @@ module _ {h : Ground} {tints marks : List ℕ} {r s np : ℕ} {heads : List ℤ}
         col-is : h.plan.col (h.plan.col q) ≡ h.plan.col q
         col-is = t.planned.header (h.plan.col q) header
 
-        still : (y : ℕ) → h.plan.col y ≡ h.plan.col q → (taken (ground_at h r q) []).on y ≡ (ground_at h r q).on y
-        still y c = refl
+        spared : Spared (ground_at h r q) (h.plan.col q) []
+        spared = spared-none g-tidy header
+
+        stand : Stand (ground_at h r q) (h.plan.col q) (h.plan.col q)
+        stand = record { on = header-on; col = col-is }
 
         pub enter : {p : ℕ} → p ≡ at down i → Middle h tints marks r s np q p heads up down
         enter {p} a =
             let b : p ≡ at (taken (ground_at h r q) []).down (h.plan.col q) = a ∙ ap (at down) item-is ∙ ap (λ (v : List ℕ). at v (h.plan.col q)) m.holds.down-are in
             record {
               item = outer-item;
-              on = rw b (down-on (ground_at h r q) g-tidy (h.plan.col q) (h.plan.tint q) header [] g-tidy still (h.plan.col q) header-on col-is);
-              col = rw b (down-col (ground_at h r q) g-tidy (h.plan.col q) (h.plan.tint q) header [] g-tidy still (h.plan.col q) header-on col-is);
+              on = rw b (down-stand spared (h.plan.col q) stand).on;
+              col = rw b (down-stand spared (h.plan.col q) stand).col;
               alive = m.alive;
               holds = subst (λ (xs : List ℕ). Holds (taken (ground_at h r q) xs) heads up down) (sym (nothing p b)) (record { heads-are = m.holds.heads-are; up-are = m.holds.up-are; down-are = m.holds.down-are });
             }
           where
+            rival : ℕ → Bool
+            rival = rival_at (ground_at h r q) (h.plan.col q) (h.plan.tint q)
+
+            inside : (k : ℕ) → rival_at (ground_at h r q) (h.plan.col q) (h.plan.tint q) k ≡ true → in_column (ground_at h r q) (h.plan.col q) k ≡ true
+            inside k = rival-inside (ground_at h r q) (h.plan.col q) k (h.plan.tint q)
+
             nothing : (p : ℕ) → p ≡ at (taken (ground_at h r q) []).down (h.plan.col q) → rivals_to h r q (reach h.plan p) ≡ []
             nothing p b =
-                rw b (down-gathered (ground_at h r q) g-tidy (h.plan.col q) (h.plan.tint q) header [] g-tidy still (h.plan.col q) header-on col-is
-                ∙ none-gathered (ground_at h r q) g-tidy (h.plan.col q) (h.plan.tint q) (h.plan.col q + 1) (omega (arith, header-before h.plan t.planned (h.plan.col q) header)))
+                rw b (down-gathered spared (h.plan.col q) stand rival inside
+                ∙ gathered-none g-tidy rival inside (h.plan.col q + 1) (omega (arith, header-before h.plan t.planned (h.plan.col q) header)))

@@ -24,7 +24,8 @@ use Rattle.links.proofs.Rows.{In-walked, In-others, others-In, after-others}
 use Rattle.links.proofs.Taken.{on-taken, after-tidy, after-within, after-fresh, gone-In}
 use Rattle.links.proofs.Gathering.{In-gather, gather-In, gather-fresh}
 use Rattle.blocking.specs.Forward.{Clash, Out, Stage, out_at, ground_at, AtItem, rivals_to}
-use Rattle.blocking.proofs.Columns.{rival→, rival←, rival-entry}
+use Rattle.links.proofs.Passing.{rival-inside, chosen-entry}
+use Rattle.blocking.proofs.Columns.{rival→, rival←}
 
 -- before the first item none is out
 pub stage-none : (h : Ground) → Stage h [] []
@@ -62,13 +63,18 @@ module _ {h : Ground} {tints marks : List ℕ} {r s np q : ℕ} (m : AtItem h ti
   pub ground-tidy : Tidy (ground_at h r q)
   ground-tidy = after-tidy h (out_at h r q) t m.stage.fresh
 
+  -- A rival is an entry of the column.
+  rival-entry : (k : ℕ) → rival_at (ground_at h r q) (h.plan.col q) (h.plan.tint q) k ≡ true → EntryOf h.plan k × (h.plan.col k ≡ h.plan.col q)
+  rival-entry =
+      chosen-entry ground-tidy (rival_at (ground_at h r q) (h.plan.col q) (h.plan.tint q)) (λ k. rival-inside (ground_at h r q) (h.plan.col q) k (h.plan.tint q))
+
   -- A rival that is met.
   module _ (k : ℕ) (c : rival_at (ground_at h r q) (h.plan.col q) (h.plan.tint q) k ≡ true) where
     rival : ((taken h (out_at h r q)).on k ≡ true) × (h.plan.col k ≡ h.plan.col q) × (start h.plan ≤ k) × (agree (h.plan.tint q) (h.plan.tint k) ≡ false)
     rival = rival→ (ground_at h r q) (h.plan.col q) (h.plan.tint q) k c
 
     pub rival-row : EntryOf h.plan k
-    rival-row = (rival-entry (ground_at h r q) ground-tidy (h.plan.col q) (h.plan.tint q) k c).0
+    rival-row = (rival-entry k c).0
 
     rival-on : h.on k ≡ true
     rival-on = (on-taken h (out_at h r q) k rival.0).0
@@ -105,7 +111,7 @@ module _ {h : Ground} {tints marks : List ℕ} {r s np q : ℕ} (m : AtItem h ti
 
   -- so nothing is taken twice
   pub rivals-fresh : (k : ℕ) → Fresh (ground_at h r q) (rivals_to h r q k)
-  rivals-fresh = gather-fresh (rival_at (ground_at h r q) (h.plan.col q) (h.plan.tint q)) (ground_at h r q) ground-tidy (h.plan.col q) (rival-entry (ground_at h r q) ground-tidy (h.plan.col q) (h.plan.tint q)) rival-whole
+  rivals-fresh = gather-fresh (rival_at (ground_at h r q) (h.plan.col q) (h.plan.tint q)) (ground_at h r q) ground-tidy (h.plan.col q) rival-entry rival-whole
 
   -- The item was tested.
   pub stage-more : Stage h (walked h r q ++ (q ∷ [])) (out_at h r q ++ rivals (ground_at h r q) q)

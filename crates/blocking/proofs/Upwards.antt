@@ -13,15 +13,16 @@ use Rattle.links.specs.Plan.{start, EntryOf, Header}
 use Rattle.links.specs.Ground.{Ground, Tidy, taken, Fresh, Holds, after}
 use Rattle.links.specs.Row.{walked, others}
 use Rattle.links.specs.Shown.{Tinted}
-use Rattle.links.specs.Taking.{gather_to, rival_at}
+use Rattle.links.specs.Taking.{gather_to, in_column, rival_at}
 use Rattle.links.proofs.Stores.{not_so}
 use Rattle.links.proofs.Plans.{header-before, entry-till}
 use Rattle.links.proofs.Taken.{fresh-front, after-tidy, after_more, fresh-after, holds-taken}
 use Rattle.links.proofs.Rows.{back-begins, back-begun, after-others}
 use Rattle.links.proofs.Gathering.{gather-one, gather_none}
-use Rattle.links.proofs.Descending.{on-entry}
+use Rattle.links.proofs.Descending.{Stand, on-entry}
 use Rattle.blocking.specs.Undo.{Half, rivals_up_to, Below}
-use Rattle.blocking.proofs.Columns.{rival→, rival←, column-same, none-gathered, up-col, up-on, up-falls, up-gathered, last-gathered}
+use Rattle.links.proofs.Passing.{rival-inside, Spared, chosen-spared, gathered-none, up-stand, up-falls, up-gathered, last-gathered}
+use Rattle.blocking.proofs.Columns.{rival→, rival←}
 
 -- A walk up a column has put p's option back, and not gone on yet: the rivals above p are out still.
 pub record Above (g : Ground) (tints : List ℕ) (p x s : ℕ) (heads : List ℤ) (up down : List ℕ) : Type 0 where
@@ -39,7 +40,7 @@ module _ {g : Ground} {tints : List ℕ} {p x s : ℕ} {heads : List ℤ} {up do
   rival_here = rival_at g (g.plan.col p) x
 
   pub below-done : p < s → Holds g heads up down
-  below-done h = subst (λ (xs : List ℕ). Holds (taken g xs) heads up down) (none-gathered g m.tidy (g.plan.col p) x (p + 1) (omega (arith, m.starts))) m.holds
+  below-done h = subst (λ (xs : List ℕ). Holds (taken g xs) heads up down) (gathered-none m.tidy rival_here (λ k. rival-inside g (g.plan.col p) k x) (p + 1) (omega (arith, m.starts))) m.holds
 
   module _ (h : s ≤ p) where
     pub below-entry : EntryOf g.plan p
@@ -116,33 +117,33 @@ module _ {g : Ground} {tints : List ℕ} {p x s : ℕ} {heads : List ℤ} {up do
   abbrev above : List ℕ
   above = gather_to (rival_at g (g.plan.col p) x) g p
 
-  now-tidy : Tidy (after g above)
-  now-tidy = after-tidy g above m.tidy m.fresh
+  inside : (k : ℕ) → rival_at g (g.plan.col p) x k ≡ true → in_column g (g.plan.col p) k ≡ true
+  inside k = rival-inside g (g.plan.col p) k x
 
-  header : Header g.plan (g.plan.col p)
-  header = m.tidy.planned.entry p m.entry
+  spared : Spared g (g.plan.col p) above
+  spared = chosen-spared m.tidy (rival_at g (g.plan.col p) x) inside (m.tidy.planned.entry p m.entry) p m.fresh
 
-  still : (y : ℕ) → g.plan.col y ≡ g.plan.col p → (taken g above).on y ≡ g.on y
-  still = column-same g m.tidy (g.plan.col p) x p
+  stand : Stand g (g.plan.col p) p
+  stand = record { on = m.on; col = refl }
 
   pub link-in : p < length up
-  link-in = rw m.holds.up-are (omega (arith, entry-till g.plan m.tidy.planned p m.entry, now-tidy.ring.ups))
+  link-in = rw m.holds.up-are (omega (arith, entry-till g.plan m.tidy.planned p m.entry, spared.now.ring.ups))
 
   pub link-falls : {u : ℕ} → u ≡ at up p → u < p
-  link-falls a = rw (a, m.holds.up-are) (up-falls g m.tidy (g.plan.col p) x header above now-tidy still p m.on refl m.entry)
+  link-falls a = rw (a, m.holds.up-are) (up-falls spared p stand m.entry)
 
   same-list : above ≡ rivals_up_to g x (at up p)
   same-list =
-      up-gathered g m.tidy (g.plan.col p) x header above now-tidy still p m.on refl m.entry
+      up-gathered spared p stand (rival_at g (g.plan.col p) x) inside m.entry
       ∙ ap (λ (u : List ℕ). gather_to (rival_at g (g.plan.col p) x) g (at u p + 1)) (sym m.holds.up-are)
-      ∙ ap (λ (i : ℕ). gather_to (rival_at g i x) g (at up p + 1)) (sym (ap (λ (u : List ℕ). g.plan.col (at u p)) m.holds.up-are ∙ up-col g m.tidy (g.plan.col p) x header above now-tidy still p m.on refl))
+      ∙ ap (λ (i : ℕ). gather_to (rival_at g i x) g (at up p + 1)) (sym (ap (λ (u : List ℕ). g.plan.col (at u p)) m.holds.up-are ∙ (up-stand spared p stand).col))
 
   stepped : Below g tints (at up p) x s heads up down
   stepped = record {
     tidy = m.tidy;
     tinted = m.tinted;
     starts = m.starts;
-    on = rw m.holds.up-are (up-on g m.tidy (g.plan.col p) x header above now-tidy still p m.on refl);
+    on = rw m.holds.up-are (up-stand spared p stand).on;
     fresh = subst (λ (xs : List ℕ). Fresh g xs) same-list m.fresh;
     holds = subst (λ (xs : List ℕ). Holds (taken g xs) heads up down) same-list m.holds;
   }
@@ -156,37 +157,34 @@ module _ (g : Ground) (tints : List ℕ) (i x s : ℕ) (t : Tidy g) (head_of : H
   abbrev all : List ℕ
   all = gather_to (rival_at g i x) g g.plan.N
 
-  all-tidy : Tidy (after g all)
-  all-tidy = after-tidy g all t f
+  inside : (k : ℕ) → rival_at g i x k ≡ true → in_column g i k ≡ true
+  inside k = rival-inside g i k x
+
+  spared : Spared g i all
+  spared = chosen-spared t (rival_at g i x) inside head_of g.plan.N f
 
   col-is : g.plan.col i ≡ i
   col-is = t.planned.header i head_of
 
-  all-still : (y : ℕ) → g.plan.col y ≡ i → (taken g all).on y ≡ g.on y
-  all-still = column-same g t i x g.plan.N
-
-  lowest-on : g.on (at up i) ≡ true
-  lowest-on = rw l.up-are (up-on g t i x head_of all all-tidy all-still i o col-is)
-
-  lowest-col : g.plan.col (at up i) ≡ i
-  lowest-col = rw l.up-are (up-col g t i x head_of all all-tidy all-still i o col-is)
+  lowest : Stand g i (at up i)
+  lowest = rw l.up-are (up-stand spared i (record { on = o; col = col-is }))
 
   -- it is the last: below it is the header again
   leads-back : at (taken g all).down (at up i) ≡ i
-  leads-back = rw l.up-are (all-tidy.ring.tied i (all-still i col-is ∙ o)).above_down
+  leads-back = rw l.up-are (spared.now.ring.tied i (spared.still i col-is ∙ o)).above_down
 
   whole-column : all ≡ rivals_up_to g x (at up i)
-  whole-column = last-gathered g t i x head_of all all-tidy all-still (at up i) lowest-on lowest-col leads-back ∙ ap (λ (j : ℕ). gather_to (rival_at g j x) g (at up i + 1)) (sym lowest-col)
+  whole-column = last-gathered spared (at up i) lowest (rival_at g i x) inside leads-back ∙ ap (λ (j : ℕ). gather_to (rival_at g j x) g (at up i + 1)) (sym lowest.col)
 
   pub header-in : i < length up
-  header-in = rw l.up-are (omega (arith, header-before g.plan t.planned i head_of, t.planned.room, all-tidy.ring.ups))
+  header-in = rw l.up-are (omega (arith, header-before g.plan t.planned i head_of, t.planned.room, spared.now.ring.ups))
 
   pub from-header : Tinted g.plan tints → s ≡ start g.plan → Below g tints (at up i) x s heads up down
   from-header w q = record {
     tidy = t;
     tinted = w;
     starts = q;
-    on = lowest-on;
+    on = lowest.on;
     fresh = subst (λ (xs : List ℕ). Fresh g xs) whole-column f;
     holds = subst (λ (xs : List ℕ). Holds (taken g xs) heads up down) whole-column l;
   }

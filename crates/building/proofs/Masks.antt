@@ -4,12 +4,10 @@ use mathlib.Core.Path.{fun_ext}
 use Rattle.theorems.proofs.Words.Tests.{T_true, true-T, T_and, and_T, T-or, or_left, or_right, T-same}
 use Rattle.links.specs.Column.{without}
 use Rattle.links.specs.Plan.{Plan, start, lo, hi, EntryOf, Header, Planned}
+use Rattle.links.proofs.Stores.{same-test}
 use Rattle.links.proofs.Rings.{without→, without←}
 use Rattle.links.proofs.Plans.{entry-from, entry-till, header-before}
 use Rattle.building.specs.Laid.{is_header, is_entry, every, below}
-
-same-mask : (a b : Bool) → (a ≡ true → b ≡ true) → (b ≡ true → a ≡ true) → a ≡ b
-same-mask a b f g = T-same a b (λ t. true-T (f (T_true a t))) (λ t. true-T (g (T_true b t)))
 
 module _ (P : Plan) where
   pub every→ : (y : ℕ) → every P y ≡ true → Header P y ⊎ EntryOf P y
@@ -54,7 +52,7 @@ module _ (P : Plan) where
 
   -- x is an entry, and is the one that is new below x + 1
   pub below-less-at : (x y : ℕ) → without (below P (x + 1)) x y ≡ below P x y
-  below-less-at x y = same-mask (without (below P (x + 1)) x y) (below P x y)
+  below-less-at x y = same-test (without (below P (x + 1)) x y) (below P x y)
       (λ e. let w = without→ (below P (x + 1)) x y e in let v = below→ (x + 1) y w.1 in below← x y v.0 (omega (arith, v.1, w.0)))
       (λ e. let v = below→ x y e in without← (below P (x + 1)) x y (λ q. omega (arith, v.1, q)) (below← (x + 1) y v.0 (omega (arith, v.1))))
 
@@ -63,14 +61,14 @@ module _ (P : Plan) where
 
   -- x is neither an entry nor a header
   pub below-same : (x : ℕ) → (Header P x → ⊥) → (EntryOf P x → ⊥) → below P (x + 1) ≡ below P x
-  below-same x nh ne = fun_ext (λ y. same-mask (below P (x + 1) y) (below P x y)
+  below-same x nh ne = fun_ext (λ y. same-test (below P (x + 1) y) (below P x y)
       (λ e. let v = below→ (x + 1) y e in let d : y ≢ x = λ q. ⊎_elim nh ne (every→ x (ap (every P) (sym q) ∙ v.0)) in below← x y v.0 (omega (arith, v.1)))
       (λ e. let v = below→ x y e in below← (x + 1) y v.0 (omega (arith, v.1))))
 
   module _ (W : Planned P) where
     -- every node lies below N
     pub below_all : below P P.N ≡ every P
-    below_all = fun_ext (λ y. same-mask (below P P.N y) (every P y) (λ e. (below→ P.N y e).0)
+    below_all = fun_ext (λ y. same-test (below P P.N y) (every P y) (λ e. (below→ P.N y e).0)
         (λ e. below← P.N y e (⊎_elim (λ h. omega (arith, header-before P W y h, W.room)) (λ n. entry-till P W y n) (every→ y e))))
 
     -- before any entry, the headers

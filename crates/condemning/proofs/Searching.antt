@@ -20,7 +20,7 @@ use Rattle.links.specs.Taking.{in_column, hides, node_blocked, Tested}
 use Rattle.links.proofs.Stores.{same?}
 use Rattle.links.proofs.Taken.{on-taken, taken-entry-head}
 use Rattle.links.proofs.Rows.{after-first}
-use Rattle.links.proofs.Descending.{Stand, column→, column←, on-entry, reach, stand-header, stand-next, step-gap, step-far, header-gap}
+use Rattle.links.proofs.Descending.{Stand, column→, column←, column-entry, on-entry, reach, stand-header, stand-next, step-gap, step-far, header-gap}
 use Rattle.showing.specs.Showing.{full_before, condemned_at}
 use Rattle.showing.proofs.HiddenStates.{hiding, hiding-is, hides-fresh, hiding-tidy, hiding-own}
 use Rattle.showing.proofs.TestedNode.{tested-hidden}
@@ -70,7 +70,7 @@ module _ (g : Ground) (R : Ready g) (i : ℕ) where
 
   module _ (r : ℕ) (c : in_column g (i + 1) r ≡ true) where
     entry : EntryOf g.plan r
-    entry = on-entry g R.tidy r (column→ g (i + 1) r c).0 (column→ g (i + 1) r c).2
+    entry = (column-entry g R.tidy (i + 1) r c).0
 
     -- what the walk back and the marking ask
     pub search-led : {heads : List ℤ} {up down : List ℕ} → Holds (taken g (hides g (i + 1))) heads up down → Led (hiding g i) r heads down
@@ -120,7 +120,7 @@ module _ (g : Ground) (R : Ready g) (i : ℕ) where
       others_apart x m =
           let w = In-down (condemned_at np i g) r m in
           let k = T_true (in_column g (i + 1) x) (T_and (in_column g (i + 1) x) (not (full_before g x) && eqb (g.plan.tint x) 0 && node_blocked (taken g (hides g (i + 1))) x np) (subst T (sym w.1) tt)).0 in
-          let e = on-entry g R.tidy x (column→ g (i + 1) x k).0 (column→ g (i + 1) x k).2 in
+          let e = (column-entry g R.tidy (i + 1) x k).0 in
           (e, λ n. omega (arith, w.0, W.once x r e entry n ((column→ g (i + 1) x k).1 ∙ sym (column→ g (i + 1) r c).1)))
 
       pub tried-not : {z : ℕ} {tints marks : List ℕ} → condemned_at np i g r ≡ false → Tried g i np r z tints marks → Tried g i np (r + 1) z tints marks

@@ -22,7 +22,7 @@ use Rattle.links.specs.Taking.{in_column, hides, node_blocked, first_out}
 use Rattle.links.proofs.Plans.{entry-from}
 use Rattle.links.proofs.Rows.{after-others, after-first}
 use Rattle.links.proofs.Taken.{after-tidy, holds-after, taken-append, fresh-within, fresh-front, fresh-rest, taken-after}
-use Rattle.links.proofs.Descending.{column→, on-entry}
+use Rattle.links.proofs.Descending.{column-entry}
 use Rattle.showing.specs.Showing.{full_before, deletes, Condemns, condemned_at}
 use Rattle.showing.proofs.Deleted.{deletes-fresh, condemned-apart}
 use Rattle.removing.specs.Deleting.{Deleting, Deleted}
@@ -68,7 +68,7 @@ module _ (g : Ground) (R : Ready g) (i np : ℕ) (C : Condemns np i g (down_to (
   column-is x e = T_true (in_column g (i + 1) x) (T_and (in_column g (i + 1) x) (not (full_before g x) && eqb (g.plan.tint x) 0 && node_blocked (taken g (hides g (i + 1))) x np) (subst T (sym e) tt)).0
 
   entry-is : (x : ℕ) → condemned_at np i g x ≡ true → EntryOf g.plan x
-  entry-is x e = let c = column→ g (i + 1) x (column-is x e) in on-entry g R.tidy x c.0 c.2
+  entry-is x e = (column-entry g R.tidy (i + 1) x (column-is x e)).0
 
   -- the loop begins
   pub deletes-begin : {tints : List ℕ} {heads : List ℤ} {up down : List ℕ} {z : ℕ} → Sparing g i np z heads up down tints → Deletes g i np tints heads up down z

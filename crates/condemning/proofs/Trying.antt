@@ -17,7 +17,7 @@ use Rattle.links.specs.Ground.{Ground, Holds}
 use Rattle.links.specs.Row.{first_live}
 use Rattle.links.specs.Taking.{hides, node_blocked, Marked}
 use Rattle.links.proofs.Plans.{entry-from, entry-till}
-use Rattle.links.proofs.Descending.{column→, on-entry}
+use Rattle.links.proofs.Descending.{column-entry}
 use Rattle.showing.specs.Showing.{condemned_at}
 use Rattle.showing.proofs.HiddenStates.{hiding, hiding-tidy}
 use Rattle.blocking.specs.Forward.{Test}
@@ -38,7 +38,7 @@ pub record Testing (g : Ground) (i r q : ℕ) (heads : List ℤ) (tints marks : 
 
 module _ {g : Ground} {i r first np z : ℕ} {heads : List ℤ} {up down tints marks : List ℕ} (t : Trying g i r first np z heads up down tints marks) where
   entry : EntryOf g.plan r
-  entry = on-entry g t.ready.tidy r (column→ g (i + 1) r t.column).0 (column→ g (i + 1) r t.column).2
+  entry = (column-entry g t.ready.tidy (i + 1) r t.column).0
 
   inside : r < g.plan.N
   inside = entry-till g.plan t.ready.tidy.planned r entry

@@ -13,7 +13,7 @@ use Rattle.links.specs.Column.{at}
 use Rattle.links.specs.Plan.{start, EntryOf}
 use Rattle.links.specs.Ground.{Ground}
 use Rattle.links.specs.Taking.{gather_to, in_column, hidden}
-use Rattle.links.proofs.Gathering.{gather-same}
+use Rattle.links.proofs.Passing.{hidden-inside, spared-none, gathered-none, down-gathered}
 use Rattle.links.proofs.Descending.{Stand, column←, on-entry, reach, stand-header, stand-in, step-gap, step-far, header-gap}
 use Rattle.hiding.specs.Hiding.{Column}
 
@@ -23,7 +23,7 @@ module _ {g : Ground} {tints : List ℕ} {c from : ℕ} (w : Column g tints c fr
 
   -- above the first entry nothing is hidden
   pub header-gathers : gather_to (hidden g c) g (c + 1) ≡ []
-  header-gathers = gather-same (hidden g c) g 0 (c + 1) (omega arith) (λ k a b. rw (header-gap g w.ready.tidy c w.header k b))
+  header-gathers = gathered-none w.ready.tidy (hidden g c) (hidden-inside g c) (c + 1) (omega (arith, w.header.below))
 
   module _ {rr : ℕ} (s : Stand g c rr) where
     pub stand-inside : rr < g.plan.N
@@ -40,9 +40,7 @@ module _ {g : Ground} {tints : List ℕ} {c from : ℕ} (w : Column g tints c fr
 
     -- nor between a node and the one below it
     pub step-gathers : gather_to (hidden g c) g (reach g.plan (at g.down rr)) ≡ gather_to (hidden g c) g (rr + 1)
-    step-gathers =
-        gather-same (hidden g c) g (rr + 1) (reach g.plan (at g.down rr)) (step-far g w.ready.tidy c w.header rr s).0
-        (λ k a b. rw (step-gap g w.ready.tidy c w.header rr s k a b))
+    step-gathers = down-gathered (spared-none w.ready.tidy w.header) rr s (hidden g c) (hidden-inside g c)
 
     module _ (l : from ≤ rr) where
       pub behind-headers : start g.plan ≤ rr

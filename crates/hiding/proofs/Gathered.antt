@@ -13,7 +13,8 @@ use Rattle.links.specs.Shown.{Ready}
 use Rattle.links.specs.Taking.{gather_to, in_column, hidden}
 use Rattle.links.proofs.Rows.{In-others}
 use Rattle.links.proofs.Gathering.{gather-column}
-use Rattle.links.proofs.Descending.{column→, on-entry}
+use Rattle.links.proofs.Descending.{column→}
+use Rattle.links.proofs.Passing.{hidden-inside, chosen-entry}
 use Rattle.hiding.specs.Away.{Rising}
 use Rattle.hiding.proofs.Rises.{rising-fresh}
 use Rattle.hiding.proofs.Order.{gather-rising}
@@ -23,17 +24,14 @@ module _ (g : Ground) (r : Ready g) (c : ℕ) where
   t = r.tidy
 
   -- a hidden node is an entry of the column
-  hidden→ : (k : ℕ) → hidden g c k ≡ true → (g.on k ≡ true) × (g.plan.col k ≡ c) × (start g.plan ≤ k)
-  hidden→ k e = column→ g c k ((and-eq-true_iff (in_column g c k) (eqb (g.plan.tint k) 0)).0 e).0
-
   pub hidden-entry : (k : ℕ) → hidden g c k ≡ true → EntryOf g.plan k × (g.plan.col k ≡ c)
-  hidden-entry k e = let h = hidden→ k e in (on-entry g t k h.0 h.2, h.1)
+  hidden-entry = chosen-entry t (hidden g c) (hidden-inside g c)
 
   pub hidden-within : (k : ℕ) → hidden g c k ≡ true → (y : ℕ) → In y (others g k) → Within g y
   hidden-within k e y m =
       let b = (hidden-entry k e).0 in
       let w = In-others g t k b m in
-      record { entry = w.0; on = r.whole.mates k y b w.0 (sym w.1) (hidden→ k e).0 w.3; header = r.whole.headers (g.plan.col y) (t.planned.entry y w.0) }
+      record { entry = w.0; on = r.whole.mates k y b w.0 (sym w.1) (column→ g c k (hidden-inside g c k e)).0 w.3; header = r.whole.headers (g.plan.col y) (t.planned.entry y w.0) }
 
   pub gathered-rising : (k : ℕ) → Rising g (gather_to (hidden g c) g k)
   gathered-rising = gather-rising (hidden g c) g t c hidden-entry hidden-within

@@ -34,6 +34,9 @@ before-gap g c k h = not_so (in_column g c k) (λ e. omega (arith, (column→ g 
 pub on-entry : (g : Ground) → Tidy g → (k : ℕ) → g.on k ≡ true → start g.plan ≤ k → EntryOf g.plan k
 on-entry g t k o h = ⊎_elim (λ i. absurd (omega (arith, header-before g.plan t.planned k i, h))) (λ m. m) (t.masked k o)
 
+pub column-entry : (g : Ground) → Tidy g → (c k : ℕ) → in_column g c k ≡ true → EntryOf g.plan k × (g.on k ≡ true) × (g.plan.col k ≡ c)
+column-entry g t c k e = let w = column→ g c k e in (on-entry g t k w.0 w.2, w.0, w.1)
+
 -- How far the walk has come when it is at the header again, and at an entry.
 pub reach-past : (P : Plan) (p : ℕ) → p < start P → reach P p ≡ P.N
 reach-past P p l = rw (lt-ltb p (start P) l)

@@ -19,7 +19,7 @@ use Rattle.links.specs.Ground.{Ground, Short, Edge, Tidy}
 use Rattle.links.specs.Row.{span, full}
 use Rattle.links.proofs.Stores.{same?}
 use Rattle.links.proofs.Plans.{entry_row, entry-till, row-mate}
-use Rattle.links.proofs.Spans.{span_none, span-In}
+use Rattle.links.proofs.Spans.{span_none, span-begin, span-In}
 use Rattle.links.specs.Lead.{Led, Leads}
 
 -- The walk is at q: it has met shortened entries only.
@@ -27,13 +27,6 @@ pub record Back (g : Ground) (r q : ℕ) : Type 0 where
   pub low : lo g.plan r ≤ q + 1
   pub high : q < r
   pub over : any (full g.heads) (span (q + 1) r) ≡ false
-
--- a row begins with its first element
-span-begin : (a b : ℕ) → a < b → span a b ≡ a ∷ span (a + 1) b
-span-begin a b h =
-    let e : b - a ≡ suc (b - (a + 1)) = omega arith in
-    let f : suc a ≡ a + 1 = omega arith in
-    ap (from a) e ∙ ap (λ (z : ℕ). a ∷ from z (b - (a + 1))) f
 
 module _ (g : Ground) (t : Tidy g) (r : ℕ) (e : EntryOf g.plan r) where
   W : Planned g.plan

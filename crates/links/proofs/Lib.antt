@@ -14,6 +14,7 @@ pub mod Onward
 pub mod Backward
 pub mod Gathering
 pub mod Descending
+pub mod Passing
 pub mod Leading
 pub mod SameNodes
 pub mod Endings

@@ -1,4 +1,4 @@
--- Numbers in a row, and what a walk round a row has passed. Assumes nothing.
+-- Numbers in a row, those of them that pass a test, and what a walk round a row has passed. Assumes nothing.
 use Prim.Native.Nat.{ℕ, suc, ◌+◌, ◌-◌, ◌<◌, ◌≤◌}
 use native.Mathlib.Omega.{arith}
 use mathlib.Core.Path.{◌≡◌, ◌∙◌, ap, sym, subst}
@@ -10,9 +10,11 @@ use mathlib.Core.List.Memᴰ.{append_right as In-append-r}
 use mathlib.Core.List.{List, [], ◌∷◌, ◌++◌, append_assoc, append-nil, Memᴰ as In}
 use borrow.Author.Tests.{lt-ltb, le-ltb}
 use lib.Dec.{T}
+use lib.ListN.{length, length-append}
 use lib.IntN.{ℤ}
 use Rattle.rules.specs.Lists.{keep, from}
-use Rattle.theorems.proofs.Words.Lists.{keep→, keep←, keep_append, In-from, from-In, from-split}
+use Rattle.theorems.proofs.Words.Tests.{false-T}
+use Rattle.theorems.proofs.Words.Lists.{keep→, keep←, keep_append, keep-none, In-from, from-In, from-split}
 use Rattle.links.specs.Row.{span, full, passed}
 use Rattle.links.specs.Way.{way, way_back}
 use Rattle.links.proofs.Stores.{less?}
@@ -43,12 +45,38 @@ In-span a b m = let r = In-from a (b - a) m in (r.0, omega arith)
 pub span-In : (a b : ℕ) {y : ℕ} → a ≤ y → y < b → In y (span a b)
 span-In a b h k = from-In a (b - a) h (omega arith)
 
--- one node more, full or not
-keep-end : (heads : List ℤ) (a b : ℕ) → a ≤ b → full heads b ≡ true → keep (full heads) (span a (b + 1)) ≡ keep (full heads) (span a b) ++ (b ∷ [])
-keep-end heads a b h f = rw span-end (keep_append (full heads) (span a b) (b ∷ []) ∙ ap (λ (z : Bool). keep (full heads) (span a b) ++ cond z (b ∷ []) []) f)
+-- a row begins with its first number; and those before y, y, and those after it
+pub span-begin : (a b : ℕ) → a < b → span a b ≡ a ∷ span (a + 1) b
+span-begin a b h =
+    let e : b - a ≡ suc (b - (a + 1)) = omega arith in
+    let f : suc a ≡ a + 1 = omega arith in
+    ap (from a) e ∙ ap (λ (z : ℕ). a ∷ from z (b - (a + 1))) f
 
-keep-over : (heads : List ℤ) (a b : ℕ) → a ≤ b → full heads b ≡ false → keep (full heads) (span a (b + 1)) ≡ keep (full heads) (span a b)
-keep-over heads a b h f = rw span-end (keep_append (full heads) (span a b) (b ∷ []) ∙ ap (λ (z : Bool). keep (full heads) (span a b) ++ cond z (b ∷ []) []) f ∙ append-nil (keep (full heads) (span a b)))
+pub span-split : (a y b : ℕ) → a ≤ y → y < b → span a b ≡ span a y ++ (y ∷ span (y + 1) b)
+span-split a y b h k = span-join a y b h (omega arith) ∙ ap (λ (l : List ℕ). span a y ++ l) (span-begin y b k)
+
+-- those that pass a test: one number more, which passes or not, and a stretch in which none passes
+module _ (f : ℕ → Bool) (a b : ℕ) (h : a ≤ b) where
+  pub keep-end : f b ≡ true → keep f (span a (b + 1)) ≡ keep f (span a b) ++ (b ∷ [])
+  keep-end e = ap (keep f) (span-end a b h) ∙ keep_append f (span a b) (b ∷ []) ∙ ap (λ (t : Bool). keep f (span a b) ++ cond t (b ∷ []) []) e
+
+  pub keep-over : f b ≡ false → keep f (span a (b + 1)) ≡ keep f (span a b)
+  keep-over e = ap (keep f) (span-end a b h) ∙ keep_append f (span a b) (b ∷ []) ∙ ap (λ (t : Bool). keep f (span a b) ++ cond t (b ∷ []) []) e ∙ append-nil (keep f (span a b))
+
+  pub keep_same : (c : ℕ) → b ≤ c → ((y : ℕ) → b ≤ y → y < c → f y ≡ false) → keep f (span a c) ≡ keep f (span a b)
+  keep_same c k n =
+      keep_join f a b c h k
+      ∙ ap (λ (l : List ℕ). keep f (span a b) ++ l) (keep-none f (span b c) (λ y m. let w = In-span b c m in false-T (n y w.0 w.1)))
+      ∙ append-nil (keep f (span a b))
+
+  -- where b passes, there are more up to c behind it
+  pub keep-rises : (c : ℕ) → b < c → f b ≡ true → length (keep f (span a b)) < length (keep f (span a c))
+  keep-rises c k e =
+      let s = ap (keep f) (span-split a b c h k) ∙ keep_append f (span a b) (b ∷ span (b + 1) c)
+          ∙ ap (λ (t : Bool). keep f (span a b) ++ cond t (b ∷ keep f (span (b + 1) c)) (keep f (span (b + 1) c))) e in
+      let n = ap length s in
+      let m = length-append (keep f (span a b)) (b ∷ keep f (span (b + 1) c)) in
+      omega (arith, n, m)
 
 module _ (heads : List ℤ) (a b p : ℕ) where
   pub passed-begin : passed heads a b p (p + 1) ≡ []
@@ -58,21 +86,21 @@ module _ (heads : List ℤ) (a b p : ℕ) where
   passed-full nn h n f = ⊎_elim ahead behind (less? p nn)
     where
       ahead : p < nn → passed heads a b p (nn + 1) ≡ passed heads a b p nn ++ (nn ∷ [])
-      ahead l = rw (lt-ltb p (nn + 1) (omega arith), lt-ltb p nn l) (keep-end heads (p + 1) nn (omega arith) f)
+      ahead l = rw (lt-ltb p (nn + 1) (omega arith), lt-ltb p nn l) (keep-end (full heads) (p + 1) nn (omega arith) f)
 
       behind : nn ≤ p → passed heads a b p (nn + 1) ≡ passed heads a b p nn ++ (nn ∷ [])
       behind l =
           rw (le-ltb p (nn + 1) (omega arith), le-ltb p nn l)
-          (ap (λ (z : List ℕ). keep (full heads) (span (p + 1) b) ++ z) (keep-end heads a nn h f) ∙ sym (append_assoc (keep (full heads) (span (p + 1) b)) (keep (full heads) (span a nn)) (nn ∷ [])))
+          (ap (λ (z : List ℕ). keep (full heads) (span (p + 1) b) ++ z) (keep-end (full heads) a nn h f) ∙ sym (append_assoc (keep (full heads) (span (p + 1) b)) (keep (full heads) (span a nn)) (nn ∷ [])))
 
   pub passed_over : (nn : ℕ) → a ≤ nn → nn ≢ p → full heads nn ≡ false → passed heads a b p (nn + 1) ≡ passed heads a b p nn
   passed_over nn h n f = ⊎_elim ahead behind (less? p nn)
     where
       ahead : p < nn → passed heads a b p (nn + 1) ≡ passed heads a b p nn
-      ahead l = rw (lt-ltb p (nn + 1) (omega arith), lt-ltb p nn l) (keep-over heads (p + 1) nn (omega arith) f)
+      ahead l = rw (lt-ltb p (nn + 1) (omega arith), lt-ltb p nn l) (keep-over (full heads) (p + 1) nn (omega arith) f)
 
       behind : nn ≤ p → passed heads a b p (nn + 1) ≡ passed heads a b p nn
-      behind l = rw (le-ltb p (nn + 1) (omega arith), le-ltb p nn l) (ap (λ (z : List ℕ). keep (full heads) (span (p + 1) b) ++ z) (keep-over heads a nn h f))
+      behind l = rw (le-ltb p (nn + 1) (omega arith), le-ltb p nn l) (ap (λ (z : List ℕ). keep (full heads) (span (p + 1) b) ++ z) (keep-over (full heads) a nn h f))
 
   -- from the boundary to the first node
   pub passed-edge : a ≤ p → p < b → passed heads a b p a ≡ passed heads a b p b

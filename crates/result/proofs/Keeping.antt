@@ -13,7 +13,7 @@ use Rattle.links.specs.Row.{full}
 use Rattle.result.specs.Filled.{Filled}
 use Rattle.result.specs.Kept.{kept_from}
 use Rattle.result.proofs.Filling.{filled_more, filled-same}
-use Rattle.result.proofs.Spanning.{keep-end, keep-over}
+use Rattle.links.proofs.Spans.{keep-end, keep-over}
 
 module _ (heads : List ℤ) (old : List ℕ) (a : ℕ) {list : List ℕ} {at c : ℕ} (h : a ≤ c) (f : Filled old (kept_from heads a c) list at) where
   pub keeping-over : eqb (item_of (head heads (c + 1))) 0 ≡ true → Filled old (kept_from heads a (c + 1)) list at

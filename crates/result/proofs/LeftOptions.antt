@@ -19,11 +19,11 @@ use Rattle.links.specs.Row.{span, full, walked, others, first_live}
 use Rattle.links.specs.Shown.{entry_at, row_of, shown_row, shown, Ready}
 use Rattle.links.specs.Taking.{in_column}
 use Rattle.links.proofs.Plans.{entry-from}
-use Rattle.links.proofs.Spans.{span_none}
+use Rattle.links.proofs.Spans.{span_none, span-split}
 use Rattle.links.proofs.Descending.{on-entry}
 use Rattle.showing.specs.Showing.{option_from as option_round}
 use Rattle.showing.proofs.InOrder.{nodes_in, In-nodes, by_rows}
-use Rattle.showing.proofs.Around.{span-split, full-on}
+use Rattle.showing.proofs.Around.{full-on}
 use Rattle.showing.proofs.Columns.{column→}
 use Rattle.showing.proofs.Results.{kept-options}
 use Rattle.result.specs.Left.{lead_at, option_from, column_to, column_options, options_to}

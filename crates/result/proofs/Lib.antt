@@ -1,5 +1,4 @@
 pub mod Filling
-pub mod Spanning
 pub mod Keeping
 pub mod KeptColumns
 pub mod Lists

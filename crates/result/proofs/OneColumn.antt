@@ -24,12 +24,11 @@ use Rattle.links.specs.Nodes.{column_in}
 use Rattle.links.specs.Lead.{Led, Leads}
 use Rattle.links.proofs.Endings.{no-item, some-item}
 use Rattle.links.proofs.Plans.{header-before}
-use Rattle.links.proofs.Spans.{In-span, keep_join}
+use Rattle.links.proofs.Spans.{In-span, keep_join, keep-end, keep-over, keep_same}
 use Rattle.links.proofs.Descending.{Stand, on-entry, reach, reach-past, reach-at, left, stand-header, stand-in, stand-column, stand-next, step-gap, step-far, step_less}
 use Rattle.result.specs.Left.{lead_at, option_from, column_to, column_options}
 use Rattle.result.specs.Writing.{FourLists, Written, Suffices}
 use Rattle.result.specs.Reading.{OptionAt, ColumnAt}
-use Rattle.result.proofs.Spanning.{keep-end, keep-over, keep_same}
 use Rattle.result.proofs.Lists.{room-front}
 
 -- The walk is at r: the options met before r are written behind the options xs.

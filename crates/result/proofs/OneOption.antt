@@ -30,7 +30,7 @@ use Rattle.result.specs.Left.{entries_to, option_from}
 use Rattle.result.specs.Writing.{FourLists, out, items_in, colours_in, Written}
 use Rattle.result.specs.Reading.{OptionAt}
 use Rattle.result.proofs.Filling.{filled_more, filled-length, filled-same}
-use Rattle.result.proofs.Spanning.{keep-end, keep-over, keep-rises}
+use Rattle.links.proofs.Spans.{keep-end, keep-over, keep-rises}
 use Rattle.theorems.proofs.Answers.Joining.{length-ends}
 use Rattle.result.proofs.Lists.{items-one, colours-one, numbers-one, ends-one, length-numbers}
 

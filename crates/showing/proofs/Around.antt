@@ -24,19 +24,9 @@ use Rattle.links.specs.Ground.{Ground, Short}
 use Rattle.links.specs.Row.{span, full, others}
 use Rattle.links.specs.Shown.{entry_at, row_of, Ready}
 use Rattle.links.proofs.Plans.{row-entry}
-use Rattle.links.proofs.Spans.{In-span}
+use Rattle.links.proofs.Spans.{In-span, span-split}
 use Rattle.showing.specs.Showing.{state_of, full_before}
 use Rattle.showing.proofs.Shows.{Linked, item_at, col-some, col-item, item-col, linked-below, shown-at}
-
--- Numbers in a row, in two parts
-
--- those before y, y, and those after it
-pub span-split : (a y b : ℕ) → a ≤ y → y < b → span a b ≡ span a y ++ (y ∷ span (y + 1) b)
-span-split a y b h k =
-    let e : b - a ≡ (y - a) + suc (b - (y + 1)) = omega arith in
-    let f : a + (y - a) ≡ y = omega arith in
-    let d : suc y ≡ y + 1 = omega arith in
-    ap (from a) e ∙ from-split (y - a) a (suc (b - (y + 1))) ∙ ap (λ (j : ℕ). span a y ++ from j (suc (b - (y + 1)))) f ∙ ap (λ (j : ℕ). span a y ++ (y ∷ from j (b - (y + 1)))) d
 
 -- The entries after the one of item c, and those before it
 

@@ -10,23 +10,19 @@ use Rattle.links.specs.Plan.{start, EntryOf}
 use Rattle.links.specs.Ground.{Ground, Tidy}
 use Rattle.links.specs.Taking.{in_column, holds_column}
 use Rattle.links.proofs.Plans.{entry-from}
+use Rattle.links.proofs.Descending as Descending
+use Rattle.links.proofs.Descending.{column-entry}
 use Rattle.showing.specs.Showing.{state_of}
-use Rattle.showing.proofs.Shows.{masked-entry, holds-node, node-holds}
+use Rattle.showing.proofs.Shows.{holds-node, node-holds}
 use Rattle.showing.proofs.InOrder.{nodes_in, In-nodes, nodes-In}
 
 module _ (g : Ground) (t : Tidy g) where
   -- an entry of column i
   pub column→ : (i y : ℕ) → T (in_column g i y) → EntryOf g.plan y × (g.on y ≡ true) × (g.plan.col y ≡ i)
-  column→ i y u =
-      let w = T_and (g.on y && eqb (g.plan.col y) i) (leb (start g.plan) y) u in
-      let v = T_and (g.on y) (eqb (g.plan.col y) i) w.0 in
-      let o = T_true (g.on y) v.0 in
-      (masked-entry g.plan t.planned g.on t.masked y (leb→le (start g.plan) y w.1) o, o, eqb→eq (g.plan.col y) i v.1)
+  column→ i y u = column-entry g t i y (T_true (in_column g i y) u)
 
   pub column← : (i y : ℕ) → EntryOf g.plan y → g.on y ≡ true → g.plan.col y ≡ i → T (in_column g i y)
-  column← i y e o c =
-      and_T (g.on y && eqb (g.plan.col y) i) (leb (start g.plan) y) (and_T (g.on y) (eqb (g.plan.col y) i) (true-T o) (eq→eqb (g.plan.col y) i c))
-      (le→leb (start g.plan) y (entry-from g.plan t.planned y e))
+  column← i y e o c = true-T (Descending.column← g i y o c (entry-from g.plan t.planned y e))
 
   -- an option with an entry in the column of item q
   pub column-holds : (k q : ℕ) → k < g.plan.M → holds_column g k (q + 1) ≡ holds q (option_at (state_of g) k)

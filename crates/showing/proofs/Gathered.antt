@@ -26,13 +26,15 @@ use Rattle.showing.proofs.Lists.{each_keep, each-each}
 use Rattle.showing.proofs.Shows.{Linked, item_at, holds-node, node-holds, uncoloured-node, node-uncoloured, one-node, own-option, shown-options}
 use Rattle.showing.proofs.InOrder.{nodes_in, by_rows, row_one, row-none}
 use Rattle.showing.proofs.Around.{around-shown}
-use Rattle.showing.proofs.Columns.{column→, column←, column-holds}
+use Rattle.links.proofs.Spans.{from_end}
+use Rattle.links.proofs.Descending.{column-entry}
+use Rattle.links.proofs.Passing.{hidden-inside, leaving-inside}
+use Rattle.showing.proofs.Columns.{column←, column-holds}
 
 pub up_to-end : (n : ℕ) → up_to (suc n) ≡ up_to n ++ (n ∷ [])
 up_to-end n =
-    let e : suc n ≡ n + 1 = omega arith in
     let f : 0 + n ≡ n = omega arith in
-    ap up_to e ∙ from-split n 0 1 ∙ ap (λ (i : ℕ). up_to n ++ (i ∷ [])) f
+    from_end 0 n ∙ ap (λ (i : ℕ). up_to n ++ (i ∷ [])) f
 
 -- a walk by node number, as lists made of the nodes
 pub gather-each : (chosen : ℕ → Bool) (g : Ground) (n : ℕ) → gather_to chosen g n ≡ each (λ y. cond (chosen y) (others g y) []) (up_to n)
@@ -100,7 +102,7 @@ module _ (g : Ground) (R : Ready g) (c : ℕ) where
 
   -- Hiding item c.
   pub hidden-picks : (y : ℕ) → hidden g (c + 1) y ≡ true → EntryOf g.plan y × (g.on y ≡ true) × (g.plan.col y ≡ c + 1)
-  hidden-picks y e = column→ g R.tidy (c + 1) y (T_and (in_column g (c + 1) y) (eqb (g.plan.tint y) 0) (true-T e)).0
+  hidden-picks y e = column-entry g R.tidy (c + 1) y (hidden-inside g (c + 1) y e)
 
   pub hides-items : map (item_at g.plan) (hides g (c + 1)) ≡ leaving_hidden c (state_of g)
   unfolding hides
@@ -124,7 +126,7 @@ module _ (g : Ground) (R : Ready g) (c : ℕ) where
 
   -- Removing item c, which is redundant for p.
   pub leaving-picks : (p y : ℕ) → leaving g (c + 1) (p + 1) y ≡ true → EntryOf g.plan y × (g.on y ≡ true) × (g.plan.col y ≡ c + 1)
-  leaving-picks p y e = column→ g R.tidy (c + 1) y (T_and (in_column g (c + 1) y) (not (holds_column g (g.plan.number y) (p + 1))) (true-T e)).0
+  leaving-picks p y e = column-entry g R.tidy (c + 1) y (leaving-inside g (c + 1) y (p + 1) e)
 
   pub leaves-items : (p : ℕ) → map (item_at g.plan) (leaves g (c + 1) (p + 1)) ≡ leaving_with c p (state_of g)
   unfolding leaves leaving_with
