@@ -44,7 +44,8 @@ module _ {p s o primaries secondaries options rounds settled : ℕ} (i : InOrder
   pub whole-options : options * 2 ^ o % 18446744073709551616 ≡ options * 2 ^ o
   whole-options = mod-eq_of_lt (omega (arith, below-all))
 
-  pub sum-fits : 256 * rounds + 16777216 * settled + primaries * 2 ^ p % 18446744073709551616 + secondaries * 2 ^ s % 18446744073709551616 + options * 2 ^ o % 18446744073709551616 < 18446744073709551616
+  pub sum-fits : 256 * rounds + 16777216 * settled + primaries * 2 ^ p % 18446744073709551616 + secondaries * 2 ^ s % 18446744073709551616 + options * 2 ^ o %
+      18446744073709551616 < 18446744073709551616
   sum-fits = rw (whole-primaries, whole-secondaries, whole-options) below-all
 
   pub sum-packed : 256 * rounds + 16777216 * settled + primaries * 2 ^ p % 18446744073709551616 + secondaries * 2 ^ s % 18446744073709551616 + options * 2 ^ o % 18446744073709551616

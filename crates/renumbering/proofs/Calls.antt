@@ -32,7 +32,8 @@ module _ (kept : List ℕ) (primaries : ℕ) (items out : List ℕ) where
   module _ (f : ℕ → ℕ) where
     pub lists-refused : (r : Renumbering) (e : Unnumbered) → IsErrAnd r (λ y. y ≡ e) → some (refused e) ≡ renumber_refusal (map (λ n. n) kept) primaries (map (λ n. n) items) out
         → outcome r out ≡ renumbered_unless (renumber_refusal kept primaries items out) f items out
-    lists-refused r e h k = let p = err_from_is_err_and r h in ap (λ (x : Renumbering). outcome x out) (p.1 ∙ ap Err p.2) ∙ ap (λ (x : Option Refusal). renumbered_unless x f items out) (k ∙ plain)
+    lists-refused r e h k = let p = err_from_is_err_and r h in
+        ap (λ (x : Renumbering). outcome x out) (p.1 ∙ ap Err p.2) ∙ ap (λ (x : Option Refusal). renumbered_unless x f items out) (k ∙ plain)
 
     pub lists-done : {after : List ℕ} → none ≡ renumber_refusal (map (λ n. n) kept) primaries (map (λ n. n) items) out
         → after ≡ written (each (λ n. n ∷ []) (map f (map (λ n. n) items))) out → outcome (Ok tt) after ≡ renumbered_unless (renumber_refusal kept primaries items out) f items out

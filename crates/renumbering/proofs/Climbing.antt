@@ -47,7 +47,8 @@ module _ {A : Type 0} (v : A → ℕ) where
 
   stops : (l : List A) (k : ℕ) → k + 1 < length l → ((d : A) → false ≡ ltb (v (get_or l k d)) (v (get_or l (k + 1) d))) → false ≡ rising (map v l)
   stops [] k h differs = absurd (omega arith)
-  stops (a ∷ l) k h differs = sym (T_false (rising (map v (a ∷ l))) (not_T (rising (map v (a ∷ l))) (λ t. fails (ordered-rises (map v (a ∷ l)) (rising→ (map v (a ∷ l)) t) k (k + 1) (omega arith) (omega (arith, length-map (a ∷ l) v))))))
+  stops (a ∷ l) k h differs = sym (T_false (rising (map v (a ∷ l)))
+      (not_T (rising (map v (a ∷ l))) (λ t. fails (ordered-rises (map v (a ∷ l)) (rising→ (map v (a ∷ l)) t) k (k + 1) (omega arith) (omega (arith, length-map (a ∷ l) v))))))
     where
       fails : get_or (map v (a ∷ l)) k 0 < get_or (map v (a ∷ l)) (k + 1) 0 → ⊥
       fails lt =

@@ -74,7 +74,8 @@ module _ {A : Type 0} (v : A → ℕ) (l : List A) where
     no-number : (k : ℕ) → IsPartitionPoint (λ y. nat_cmp (v y) i ≡ Less) (λ y. nat_cmp (v y) i ≡ Greater) l k → (j : ℕ) → j < length l → get_or (map v l) j 0 ≢ i
     no-number k p j h =
         let d = element l j h in
-        ⊎_elim (λ t. let lt = ltb→lt j k t in differs j Less d h (λ q. cc) (p.0 j d (omega arith) lt)) (λ t. let ge = nltb→le j k t in differs j Greater d h (λ q. cc) (p.1 j d ge h)) (T-dec (ltb j k))
+        ⊎_elim (λ t. let lt = ltb→lt j k t in differs j Less d h (λ q. cc) (p.0 j d (omega arith) lt))
+        (λ t. let ge = nltb→le j k t in differs j Greater d h (λ q. cc) (p.1 j d ge h)) (T-dec (ltb j k))
 
     no-place : ((j : ℕ) → j < length l → get_or (map v l) j 0 ≢ i) → place (map v l) i ≡ length l
     no-place n = place_is (map v l) i (length l) n (omega (arith, length-map l v)) (λ z. absurd (omega (arith, length-map l v)))
@@ -84,7 +85,9 @@ module _ {A : Type 0} (v : A → ℕ) (l : List A) where
     searched-place (Ok k) w h =
         let d = element l k w in
         let e = exact_unsigned (v (get_or l k d)) i (h d) in
-        let at : place (map v l) i ≡ k = place_is (map v l) i k (λ j lt q. let m = rises (map v l) r j k lt (omega (arith, length-map l v)) in absurd (omega (arith, value-at k d w))) (omega (arith, length-map l v)) (λ z. sym (value-at k d w) ∙ e) in
+        let at : place (map v l) i ≡ k =
+        place_is (map v l) i k (λ j lt q. let m = rises (map v l) r j k lt (omega (arith, length-map l v)) in absurd (omega (arith, value-at k d w)))
+        (omega (arith, length-map l v)) (λ z. sym (value-at k d w) ∙ e) in
         rw (at, lt-ltb k (length l) w)
     searched-place (Err k) w h =
         let at = no-place (no-number k (h sorted)) in

@@ -54,10 +54,12 @@ module _ {A : Type 0} (v : A → ℕ) (kept : List ℕ) where
   kept-before [] n h K j lt = absurd (omega arith)
   kept-before (x ∷ items) n h K j lt = rw (get_or-map v (x ∷ items) j x 0 (omega arith)) (K j x (omega arith) lt)
 
-  pub missing-answer : (items : List A) (r : Optional ℕ) → MatchOption r (AllWithin Kept items 0 (length items)) (λ k. (k < length items) × HoldsAt Lacking items k × AllWithin Kept items 0 k)
+  pub missing-answer : (items : List A) (r : Optional ℕ)
+      → MatchOption r (AllWithin Kept items 0 (length items)) (λ k. (k < length items) × HoldsAt Lacking items k × AllWithin Kept items 0 k)
       → as_option r ≡ not_kept kept 0 (map v items)
   missing-answer items None K = sym (none-missing kept (map v items) 0 (λ k h. kept-before items (length items) (omega arith) K k (omega (arith, length-map items v))))
   missing-answer [] (Some k) K = absurd (omega (arith, K.0))
   missing-answer (x ∷ items) (Some k) K =
       let e : 0 + k ≡ k = omega arith in
-      sym (first-missing kept (map v (x ∷ items)) 0 k (kept-before (x ∷ items) k (omega (arith, K.0)) K.2) (omega (arith, K.0, length-map (x ∷ items) v)) (rw (get_or-map v (x ∷ items) k x 0 K.0) (K.1 x)) ∙ ap some e)
+      sym (first-missing kept (map v (x ∷ items)) 0 k (kept-before (x ∷ items) k (omega (arith, K.0)) K.2) (omega (arith, K.0, length-map (x ∷ items) v))
+      (rw (get_or-map v (x ∷ items) k x 0 K.0) (K.1 x)) ∙ ap some e)

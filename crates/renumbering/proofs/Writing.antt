@@ -19,7 +19,8 @@ pub room_next : (width k n m : ℕ) → k < n → width * n ≤ m → width * k 
 room_next width k n m h w = grind arith
 
 -- one number more
-pub mapped_next : {A : Type 0} (width : ℕ) (cells : ℕ → List A) → ((n : ℕ) → length (cells n) ≡ width) → (f : ℕ → ℕ) (items : List ℕ) (old out : List A) (k n : ℕ) → k < length items → width * k + width ≤ length old
+pub mapped_next : {A : Type 0} (width : ℕ) (cells : ℕ → List A) → ((n : ℕ) → length (cells n) ≡ width) → (f : ℕ → ℕ) (items : List ℕ) (old out : List A) (k n : ℕ)
+    → k < length items → width * k + width ≤ length old
     → n ≡ f (get_or items k 0) → out ≡ written (each cells (take k (map f items))) old → sets out (width * k) (cells n) ≡ written (each cells (take (k + 1) (map f items))) old
 mapped_next width cells fills f items old out k n h w e o =
     ap (λ (l : List _). sets l (width * k) (cells n)) o
@@ -27,7 +28,8 @@ mapped_next width cells fills f items old out k n h w e o =
     ∙ cells_next width cells fills (map f items) old k (omega (arith, length-map items f)) w
 
 -- The item x at place k, as the number i, and where the search finds it.
-module _ {A : Type 0} (v : A → ℕ) (kept items : List A) (r : rising (map v kept) ≡ true) (all : AllKept (map v kept) (map v items)) (k : ℕ) (h : k < length items) (x : A) (at : x ≡ get_or items k x) (i : ℕ)
+module _ {A : Type 0} (v : A → ℕ) (kept items : List A) (r : rising (map v kept) ≡ true) (all : AllKept (map v kept) (map v items)) (k : ℕ) (h : k < length items)
+    (x : A) (at : x ≡ get_or items k x) (i : ℕ)
     (e : i ≡ v x) where
   pub item-at : i ≡ get_or (map v items) k 0
   item-at = e ∙ ap v at ∙ sym (get_or-map v items k x 0 h)

@@ -10,4 +10,5 @@ returns g c = λ r.
     let v = g.N.Numeral.value in
     let kept = map v c.args.kept.now in
     missing-answer v kept c.args.items.now c.position.result
-    (IsFirst-from_position _ _ c.position.result (Lacking v kept) (Kept v kept) c.position.ensures.ran (YieldsList-from_slice c.args.items.now (cc)) (λ x q k. search (rules, tests)) (λ x q k. search (rules, tests)))
+    (IsFirst-from_position _ _ c.position.result (Lacking v kept) (Kept v kept) c.position.ensures.ran (YieldsList-from_slice c.args.items.now (cc))
+    (λ x q k. search (rules, tests)) (λ x q k. search (rules, tests)))

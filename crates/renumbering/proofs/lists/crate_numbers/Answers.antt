@@ -13,7 +13,8 @@ use Rattle.renumbering.proofs.lists.crate_numbers.Goals as goal
 pub returns-in_err-check : goal.returns-in_err-check
 unfolding crate_outcome
 returns-in_err-check c =
-    let a = c.args in lists-refused a.kept.now a.primaries a.items.now a.out.now (crate_item a.kept.now a.primaries) c.from_residual.result _ c.from_residual.ensures.1 (c.in_err-check.ensures a.out.now refl)
+    let a = c.args in lists-refused a.kept.now a.primaries a.items.now a.out.now (crate_item a.kept.now a.primaries) c.from_residual.result _
+    c.from_residual.ensures.1 (c.in_err-check.ensures a.out.now refl)
 
 pub sd-sd-requires : goal.sd-sd-requires
 sd-sd-requires c =
