@@ -32,7 +32,13 @@ pub fn append(nodes: &mut Nodes, tints: &mut [u32], x: usize, c: usize, tint: u3
 }
 
 // Lays out the entries of an option at the nodes behind boundary `edge`.
-pub fn put_entries(nodes: &mut Nodes, tints: &mut [u32], edge: usize, items: &[u32], colours: &[u32])
+pub fn put_entries(
+    nodes: &mut Nodes,
+    tints: &mut [u32],
+    edge: usize,
+    items: &[u32],
+    colours: &[u32],
+)
     requires lengths { (length colours.now ≡ length items.now) × (edge + 1 < node_bound) }
     requires filling { (P : Plan) × in_nodes (Filling P edge items.now colours.now) nodes.old tints.old }
     ensures nodes { SameNodes nodes.old nodes.new }
