@@ -11,7 +11,7 @@ use Rattle.std.specs.Prelude.{None, Some}
 use Rattle.links.specs.Head.{item_of, head}
 use Rattle.links.specs.Column.{at}
 use Rattle.links.specs.Plan.{EntryOf, Header}
-use Rattle.links.specs.Ground.{Ground, Tidy, taken, Fresh, Holds}
+use Rattle.links.specs.Ground.{Ground, Tidy, taken, Fresh, Holds, after}
 use Rattle.links.specs.Row.{walked}
 use Rattle.links.specs.Way.{way_back}
 use Rattle.links.specs.Nodes.{column_in}
@@ -19,10 +19,10 @@ use Rattle.links.proofs.Endings.{item_none, item_some}
 use Rattle.links.specs.Taking.{rivals, testing}
 use Rattle.links.proofs.Plans.{row-mate}
 use Rattle.links.proofs.Rows.{At, walked_none}
-use Rattle.links.proofs.Grounds.{fresh-front}
-use Rattle.blocking.specs.Undo.{after, Below, Behind}
-use Rattle.blocking.proofs.After.{after-tidy, after_more, after-header, fresh-after, held}
-use Rattle.blocking.proofs.Back as Back
+use Rattle.links.proofs.Taken.{fresh-front, after-tidy, after_more, taken-header, fresh-after, holds-taken}
+use Rattle.blocking.specs.Undo.{Below, Behind}
+use Rattle.links.proofs.Onward.{Standing}
+use Rattle.links.proofs.Backward as Backward
 use Rattle.blocking.proofs.Upwards.{header-in, from-header}
 use Rattle.blocking.proofs.Testing.{testing-more}
 
@@ -30,11 +30,14 @@ module _ {h : Ground} {tints : List ℕ} {k r s : ℕ} {heads : List ℤ} {up do
   abbrev out : List ℕ
   out = testing h (walked h r (k + 1))
 
+  stands : Standing h out r (k + 1) heads up down
+  stands = record { tidy = m.tidy; fresh = m.fresh; entry = m.entry; place = record { from = m.from; till = m.till }; holds = m.holds }
+
   pub behind-in : (k < length heads) × (k < length down)
-  behind-in = Back.back_in h out m.tidy m.fresh r m.entry heads up down m.holds k m.from m.till
+  behind-in = Backward.inside k stands
 
   pub behind-some : 0 < k
-  behind-some = Back.back_some h out m.tidy m.fresh r m.entry heads up down m.holds k m.from m.till
+  behind-some = Backward.back_some k stands
 
   -- the walk back came to r
   pub behind-done : k ≡ r → Holds h heads up down
@@ -47,10 +50,10 @@ module _ {h : Ground} {tints : List ℕ} {k r s : ℕ} {heads : List ℤ} {up do
       no_item = item_none (head heads k) none
 
       on-at : At h r (at down k + 1)
-      on-at = Back.over-at h out m.tidy m.fresh r m.entry heads up down m.holds k m.from m.till d no_item
+      on-at = Backward.over-at k stands d no_item
 
       same-walked : walked h r (k + 1) ≡ walked h r (at down k + 1)
-      same-walked = sym (Back.over-walked h out m.tidy m.fresh r m.entry heads up down m.holds k m.from m.till d no_item)
+      same-walked = sym (Backward.over-walked k stands d no_item)
 
       pub behind-over : Behind h tints (at down k) r s heads up down
       behind-over = record {
@@ -66,7 +69,7 @@ module _ {h : Ground} {tints : List ℕ} {k r s : ℕ} {heads : List ℤ} {up do
       }
 
       pub behind-over-way : (n : ℕ) → length heads ≡ n → way_back n r (at down k) < way_back n r k
-      behind-over-way = Back.over-way h out m.tidy m.fresh r m.entry heads up down m.holds k m.from m.till d no_item
+      behind-over-way = Backward.over-way k stands d no_item
 
     -- at an entry of column i
     module _ {i : ℕ} (some : Some i ≡ column_in (head heads k)) where
@@ -74,10 +77,10 @@ module _ {h : Ground} {tints : List ℕ} {k r s : ℕ} {heads : List ℤ} {up do
       an_item e = omega (arith, e, (item_some (head heads k) i some).1)
 
       at_entry : At h r k
-      at_entry = Back.full_at h out m.tidy m.fresh r m.entry heads up down m.holds k m.from m.till d an_item
+      at_entry = Backward.full_at k stands d an_item
 
       item-is : i ≡ h.plan.col k
-      item-is = sym (item_some (head heads k) i some).0 ∙ Back.full-col h out m.tidy m.fresh r m.entry heads up down m.holds k m.from m.till d an_item
+      item-is = sym (item_some (head heads k) i some).0 ∙ Backward.full-col k stands d an_item
 
       entry : EntryOf h.plan k
       entry = row-mate h.plan m.tidy.planned r k m.entry at_entry.from (omega (arith, m.till))
@@ -93,7 +96,7 @@ module _ {h : Ground} {tints : List ℕ} {k r s : ℕ} {heads : List ℤ} {up do
       then = after h earlier
 
       one_more : out ≡ earlier ++ rivals then k
-      one_more = ap (testing h) (Back.full-one h out m.tidy m.fresh r m.entry heads up down m.holds k m.from m.till d an_item) ∙ testing-more h (walked h r k) k
+      one_more = ap (testing h) (Backward.full-one k stands d an_item) ∙ testing-more h (walked h r k) k
 
       fresh-one : Fresh h (earlier ++ rivals then k)
       fresh-one = subst (λ (xs : List ℕ). Fresh h xs) one_more m.fresh
@@ -112,7 +115,7 @@ module _ {h : Ground} {tints : List ℕ} {k r s : ℕ} {heads : List ℤ} {up do
 
       -- the header of the column is where it was
       header-on : then.on (h.plan.col k) ≡ true
-      header-on = after-header h earlier m.tidy fresh-earlier (h.plan.col k) col-header ∙ m.headers (h.plan.col k) col-header
+      header-on = taken-header h earlier m.tidy fresh-earlier (h.plan.col k) col-header ∙ m.headers (h.plan.col k) col-header
 
       pub behind-link : i < length up
       behind-link = rw item-is (header-in then tints (h.plan.col k) (h.plan.tint k) s then-tidy col-header header-on fresh-last heads up down holds-last)
@@ -134,5 +137,5 @@ module _ {h : Ground} {tints : List ℕ} {k r s : ℕ} {heads : List ℤ} {up do
             from = rw e at_entry.from;
             till = rw e at_entry.till;
             fresh = rw e fresh-earlier;
-            holds = rw e (held h earlier l);
+            holds = rw e (holds-taken h earlier l);
           }

@@ -1,10 +1,10 @@
 -- The walk forwards round one rival. Assumes nothing.
 use Prim.Native.Nat.{ℕ, ◌+◌, ◌-◌, ◌<◌}
 use native.Mathlib.Omega.{arith}
-use mathlib.Core.Path.{◌≡◌, refl, ◌∙◌, ap, sym, subst}
+use mathlib.Core.Path.{◌≡◌, ◌∙◌, ap, sym, subst}
 use mathlib.Core.Logic.{⊎_elim, ◌≢◌}
 use mathlib.Core.Bool.{true, false, false≢true}
-use mathlib.Core.List.{List, [], ◌∷◌, ◌++◌, Memᴰ as In}
+use mathlib.Core.List.{List, [], ◌∷◌, ◌++◌}
 use borrow.Author.Tests.{eq-eqb, ne_eqb, le-leb}
 use lib.ListN.{length, set}
 use lib.IntN.{ℤ, pos}
@@ -13,21 +13,21 @@ use Rattle.rules.specs.Bounds.{node_bound}
 use Rattle.links.specs.Head.{item_of, head}
 use Rattle.links.specs.Column.{at, cut_up, cut_down}
 use Rattle.links.specs.Plan.{hi, EntryOf}
-use Rattle.links.specs.Ground.{Ground, Tidy, Within, taken, Fresh, Holds}
+use Rattle.links.specs.Ground.{Ground, Tidy, Within, taken, Fresh, Holds, after}
 use Rattle.links.specs.Row.{walked, others}
 use Rattle.links.specs.Way.{way}
 use Rattle.links.specs.Nodes.{column_in}
 use Rattle.links.proofs.Endings.{item_none, item_some}
 use Rattle.links.specs.Taking.{rival_at}
 use Rattle.links.proofs.Stores.{read_set}
-use Rattle.links.proofs.Rows.{At, In-walked, others-In}
+use Rattle.links.proofs.Rows.{At, after-others}
 use Rattle.links.proofs.Gathering.{gather-one}
 use Rattle.blocking.specs.Stops.{stops_at}
-use Rattle.blocking.specs.Undo.{after}
 use Rattle.blocking.specs.Forward.{Alive, ground_at, rivals_to, ground_to, Inner, Stopped}
-use Rattle.links.proofs.Grounds.{fresh-within}
-use Rattle.blocking.proofs.After.{after-tidy, after_more, after-others, after-within, fresh-after, fresh-one-more, take_out, fewer-asks, unlink-asks}
-use Rattle.blocking.proofs.Forth as Forth
+use Rattle.links.proofs.Taken.{fresh-within, after-tidy, after_more, fresh-after}
+use Rattle.links.proofs.Undoing.{fresh-one-more, take_out, fewer-asks, unlink-asks}
+use Rattle.links.proofs.Onward as Onward
+use Rattle.links.proofs.Onward.{Standing, passing-within}
 use Rattle.blocking.proofs.Columns.{rival→}
 use Rattle.blocking.proofs.Rivals.{Passed}
 use Rattle.blocking.proofs.Stages.{ground-tidy, rivals-fresh, rival-row}
@@ -68,8 +68,11 @@ module _ {h : Ground} {tints marks : List ℕ} {r s np : ℕ} {heads : List ℤ}
       subst (λ (xs : List ℕ). Fresh (ground_to h r q p) xs) (sym same-others)
       (fresh-after (ground_at h r q) (rivals_to h r q p) (others (ground_at h r q) p) (subst (λ (xs : List ℕ). Fresh (ground_at h r q) xs) one_more (rivals-fresh m.item (p + 1))))
 
+  stands : Standing (ground_to h r q p) (walked (ground_to h r q p) p qq) p qq heads up down
+  stands = record { tidy = to-tidy; fresh = m.fresh; entry = row; place = record { from = m.from; till = m.till }; holds = m.holds }
+
   pub inner-in : (qq < length heads) × (qq < length up)
-  inner-in = Forth.forth-in (ground_to h r q p) (walked (ground_to h r q p) p qq) to-tidy m.fresh p row heads up down m.holds qq m.from m.till
+  inner-in = Onward.inside stands
 
   -- the walk came round: p's others are out
   pub inner-done : qq ≡ p → Passed h tints marks r s np q p heads up down
@@ -94,10 +97,10 @@ module _ {h : Ground} {tints marks : List ℕ} {r s np : ℕ} {heads : List ℤ}
       no_item = item_none (head heads qq) none
 
       on-at : At (ground_to h r q p) p (at up qq)
-      on-at = Forth.over-at (ground_to h r q p) (walked (ground_to h r q p) p qq) to-tidy m.fresh p row heads up down m.holds qq m.from m.till d no_item
+      on-at = Onward.over-at stands d no_item
 
       same-walked : walked (ground_to h r q p) p qq ≡ walked (ground_to h r q p) p (at up qq)
-      same-walked = sym (Forth.over-walked (ground_to h r q p) (walked (ground_to h r q p) p qq) to-tidy m.fresh p row heads up down m.holds qq m.from m.till d no_item)
+      same-walked = sym (Onward.over-walked stands d no_item)
 
       pub inner-over : Inner h tints marks r s np q p (at up qq) heads up down
       inner-over = record {
@@ -111,35 +114,30 @@ module _ {h : Ground} {tints marks : List ℕ} {r s np : ℕ} {heads : List ℤ}
       }
 
       pub inner-over-way : (n : ℕ) → length heads ≡ n → way n p (at up qq) < way n p qq
-      inner-over-way = Forth.over-way (ground_to h r q p) (walked (ground_to h r q p) p qq) to-tidy m.fresh p row heads up down m.holds qq m.from m.till d no_item
+      inner-over-way = Onward.over-way stands d no_item
 
     pub inner-way : (n : ℕ) → length heads ≡ n → way n p (qq + 1) < way n p qq
-    inner-way = Forth.full-way (ground_to h r q p) (walked (ground_to h r q p) p qq) to-tidy m.fresh p row heads up down m.holds qq m.from m.till d
+    inner-way = Onward.full-way stands d
 
     -- at an entry, which is in its column
     module _ (z : item_of (head heads qq) ≢ 0) where
       pub inner-entry : EntryOf h.plan qq
-      inner-entry = Forth.full-entry (ground_to h r q p) (walked (ground_to h r q p) p qq) to-tidy m.fresh p row heads up down m.holds qq m.from m.till d z
+      inner-entry = Onward.full-entry stands d z
 
       inside : qq < hi h.plan p
-      inside = Forth.full-inside (ground_to h r q p) (walked (ground_to h r q p) p qq) to-tidy m.fresh p row heads up down m.holds qq m.from m.till d z
+      inside = Onward.full-inside stands d z
 
       pub inner-number : h.plan.number qq ≡ h.plan.number p
       inner-number = to-tidy.planned.numbered (h.plan.number p) qq row.option m.from inside
 
       pub inner-col : item_of (head heads qq) ≡ h.plan.col qq
-      inner-col = Forth.full-col (ground_to h r q p) (walked (ground_to h r q p) p qq) to-tidy m.fresh p row heads up down m.holds qq m.from m.till d z
-
-      among : In qq (others (ground_to h r q p) p)
-      among = others-In (ground_to h r q p) to-tidy p row inner-entry inner-number d (Forth.full-head (ground_to h r q p) (walked (ground_to h r q p) p qq) to-tidy m.fresh p row heads up down m.holds qq m.from m.till d z)
+      inner-col = Onward.full-col stands d z
 
       pub inner-within : Within (after (ground_to h r q p) (walked (ground_to h r q p) p qq)) qq
-      inner-within =
-          after-within (ground_to h r q p) (walked (ground_to h r q p) p qq) to-tidy m.fresh (fresh-within (ground_to h r q p) (others (ground_to h r q p) p) others-fresh among)
-          (λ i. (In-walked (ground_to h r q p) to-tidy p row qq (record { from = m.from; till = m.till }) i).3 refl)
+      inner-within = passing-within stands d z (λ y i. fresh-within (ground_to h r q p) (others (ground_to h r q p) p) others-fresh i)
 
       walked_more : walked (ground_to h r q p) p (qq + 1) ≡ walked (ground_to h r q p) p qq ++ (qq ∷ [])
-      walked_more = Forth.full-one (ground_to h r q p) (walked (ground_to h r q p) p qq) to-tidy m.fresh p row heads up down m.holds qq m.from m.till d z
+      walked_more = Onward.full-one stands d z
 
     -- as the entry of column i
     module _ {i : ℕ} (some : Some i ≡ column_in (head heads qq)) where
@@ -150,13 +148,13 @@ module _ {h : Ground} {tints marks : List ℕ} {r s np : ℕ} {heads : List ℤ}
       item-is = sym (item_some (head heads qq) i some).0 ∙ inner-col an_item
 
       pub inner-fewer : (i < length heads) × (item_of (head heads i) < node_bound) × (0 < item_of (head heads i))
-      inner-fewer = rw item-is (fewer-asks (ground_to h r q p) (walked (ground_to h r q p) p qq) qq to-tidy m.fresh (inner-within an_item) heads up down m.holds)
+      inner-fewer = rw item-is (fewer-asks (ground_to h r q p) (walked (ground_to h r q p) p qq) qq to-tidy m.fresh (inner-within an_item) m.holds)
 
       pub inner-mark : i < length marks
       inner-mark = rw item-is (omega (arith, (to-tidy.planned.entry qq (inner-entry an_item)).below, m.item.test.marked.room))
 
       pub inner-unlink : (qq < length up) × (qq < length down) × (at up qq < length down) × (at down qq < length up)
-      inner-unlink = unlink-asks (ground_to h r q p) (walked (ground_to h r q p) p qq) qq to-tidy m.fresh (inner-within an_item) heads up down m.holds
+      inner-unlink = unlink-asks (ground_to h r q p) (walked (ground_to h r q p) p qq) qq to-tidy m.fresh (inner-within an_item) m.holds
 
       -- it is taken out
       pub inner-take : stops_at heads marks i r np ≡ false
@@ -166,9 +164,9 @@ module _ {h : Ground} {tints marks : List ℕ} {r s np : ℕ} {heads : List ℤ}
         rival = m.rival;
         from = omega (arith, m.from);
         till = omega (arith, inside an_item);
-        fresh = subst (λ (xs : List ℕ). Fresh (ground_to h r q p) xs) (sym (walked_more an_item)) (fresh-one-more (ground_to h r q p) (walked (ground_to h r q p) p qq) qq to-tidy m.fresh (inner-within an_item) heads up down m.holds);
+        fresh = subst (λ (xs : List ℕ). Fresh (ground_to h r q p) xs) (sym (walked_more an_item)) (fresh-one-more (ground_to h r q p) (walked (ground_to h r q p) p qq) qq to-tidy m.fresh (inner-within an_item));
         alive = alive-less h marks r np heads i m.alive inner-fewer.0 n;
-        holds = rw item-is (subst (λ (xs : List ℕ). Holds (taken (ground_to h r q p) xs) (set heads (h.plan.col qq) (pos (item_of (head heads (h.plan.col qq)) - 1))) (cut_up up down qq) (cut_down up down qq)) (sym (walked_more an_item)) (take_out (ground_to h r q p) (walked (ground_to h r q p) p qq) qq to-tidy m.fresh (inner-within an_item) heads up down m.holds));
+        holds = rw item-is (subst (λ (xs : List ℕ). Holds (taken (ground_to h r q p) xs) (set heads (h.plan.col qq) (pos (item_of (head heads (h.plan.col qq)) - 1))) (cut_up up down qq) (cut_down up down qq)) (sym (walked_more an_item)) (take_out (ground_to h r q p) (walked (ground_to h r q p) p qq) qq to-tidy m.fresh (inner-within an_item) m.holds));
       }
 
       -- or the walk stops before it

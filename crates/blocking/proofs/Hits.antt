@@ -21,7 +21,7 @@ use Rattle.links.proofs.Spans.{In-span, span-In}
 use Rattle.links.proofs.Rows.{In-walked, In-others, others-In}
 use Rattle.links.proofs.Gathering.{In-gather}
 use Rattle.blocking.specs.Forward.{Clash, out_at, ground_at, Item, rivals_to, ground_to}
-use Rattle.blocking.proofs.After.{after-tidy, gone-In}
+use Rattle.links.proofs.Taken.{after-tidy, gone-In}
 use Rattle.blocking.proofs.Stages.{item-entry, item-number, ground-tidy, rival-row, rival-clash, rivals-fresh}
 
 -- The option of y clashes with r at node k.

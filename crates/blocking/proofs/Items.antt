@@ -20,9 +20,10 @@ use Rattle.links.specs.Taking.{testing}
 use Rattle.links.proofs.Plans.{header-before}
 use Rattle.links.proofs.Rows.{At, walk_begins, walked_none}
 use Rattle.blocking.specs.Forward.{Test, Stage, out_at, ground_at, Outer, Item, rivals_to, Middle}
-use Rattle.blocking.proofs.After.{after-header}
+use Rattle.links.proofs.Taken.{taken-header}
 use Rattle.blocking.proofs.Columns.{none-gathered, down-on, down-col, down-gathered}
-use Rattle.blocking.proofs.Forth as Forth
+use Rattle.links.proofs.Onward as Onward
+use Rattle.links.proofs.Onward.{Standing}
 use Rattle.blocking.proofs.Stages.{stage-none, item-entry, ground-tidy}
 
 -- the place of the walk, and what is known there
@@ -48,9 +49,12 @@ module _ {h : Ground} {tints marks : List ℕ} {r s np : ℕ} {heads : List ℤ}
     e : EntryOf h.plan r
     e = m.test.tested.entry
 
+    stands : Standing h (out_at h r q) r q heads up down
+    stands = record { tidy = t; fresh = m.stage.fresh; entry = e; place = record { from = m.from; till = m.till }; holds = m.holds }
+
     -- it is within the lists
     pub outer-in : (q < length heads) × (q < length up)
-    outer-in = Forth.forth-in h (out_at h r q) t m.stage.fresh r e heads up down m.holds q m.from m.till
+    outer-in = Onward.inside stands
 
     module _ (d : q ≢ r) where
       -- over a head without an item
@@ -59,10 +63,10 @@ module _ {h : Ground} {tints marks : List ℕ} {r s np : ℕ} {heads : List ℤ}
         no_item = item_none (head heads q) none
 
         on-at : At h r (at up q)
-        on-at = Forth.over-at h (out_at h r q) t m.stage.fresh r e heads up down m.holds q m.from m.till d no_item
+        on-at = Onward.over-at stands d no_item
 
         same-walked : walked h r q ≡ walked h r (at up q)
-        same-walked = sym (Forth.over-walked h (out_at h r q) t m.stage.fresh r e heads up down m.holds q m.from m.till d no_item)
+        same-walked = sym (Onward.over-walked stands d no_item)
 
         pub outer-over : Outer h tints marks r s np (at up q) heads up down
         outer-over = record {
@@ -75,7 +79,7 @@ module _ {h : Ground} {tints marks : List ℕ} {r s np : ℕ} {heads : List ℤ}
         }
 
         pub outer-over-way : (n : ℕ) → length heads ≡ n → way n r (at up q) < way n r q
-        outer-over-way = Forth.over-way h (out_at h r q) t m.stage.fresh r e heads up down m.holds q m.from m.till d no_item
+        outer-over-way = Onward.over-way stands d no_item
 
       -- at an entry of column i, which is entered
       module _ {i : ℕ} (some : Some i ≡ column_in (head heads q)) where
@@ -86,14 +90,14 @@ module _ {h : Ground} {tints marks : List ℕ} {r s np : ℕ} {heads : List ℤ}
         outer-item = record {
           test = m.test;
           from = m.from;
-          till = Forth.full-inside h (out_at h r q) t m.stage.fresh r e heads up down m.holds q m.from m.till d an_item;
+          till = Onward.full-inside stands d an_item;
           other = d;
-          full = Forth.full-head h (out_at h r q) t m.stage.fresh r e heads up down m.holds q m.from m.till d an_item;
+          full = Onward.full-head stands d an_item;
           stage = m.stage;
         }
 
         item-is : i ≡ h.plan.col q
-        item-is = sym (item_some (head heads q) i some).0 ∙ Forth.full-col h (out_at h r q) t m.stage.fresh r e heads up down m.holds q m.from m.till d an_item
+        item-is = sym (item_some (head heads q) i some).0 ∙ Onward.full-col stands d an_item
 
         entry : EntryOf h.plan q
         entry = item-entry outer-item
@@ -108,7 +112,7 @@ module _ {h : Ground} {tints marks : List ℕ} {r s np : ℕ} {heads : List ℤ}
         outer-link = rw (item-is, m.holds.down-are) (omega (arith, header-before h.plan t.planned (h.plan.col q) header, t.planned.room, g-tidy.ring.downs))
 
         header-on : (ground_at h r q).on (h.plan.col q) ≡ true
-        header-on = after-header h (out_at h r q) t m.stage.fresh (h.plan.col q) header ∙ m.test.tested.headers (h.plan.col q) header
+        header-on = taken-header h (out_at h r q) t m.stage.fresh (h.plan.col q) header ∙ m.test.tested.headers (h.plan.col q) header
 
         col-is : h.plan.col (h.plan.col q) ≡ h.plan.col q
         col-is = t.planned.header (h.plan.col q) header

@@ -1,6 +1,3 @@
-pub mod After
-pub mod Back
-pub mod Forth
 pub mod Columns
 pub mod Testing
 pub mod Stages

@@ -14,7 +14,7 @@ use Rattle.theorems.proofs.Words.Lists.{any→, any←, any_none, none_any, all�
 use Rattle.links.specs.Head.{item_of, head}
 use Rattle.links.specs.Column.{at, without}
 use Rattle.links.specs.Plan.{Plan, lo, hi, EntryOf, Header, start}
-use Rattle.links.specs.Ground.{Ground, tally, Tidy, Within}
+use Rattle.links.specs.Ground.{Ground, tally, Tidy, Within, after}
 use Rattle.links.specs.Row.{span, full, walked, others}
 use Rattle.links.specs.Taking.{in_column, nodes_of, clashes_at, shut_at, node_blocked, Tested, length_of}
 use Rattle.links.proofs.Stores.{same?}
@@ -23,12 +23,11 @@ use Rattle.links.proofs.Rings.{without←}
 use Rattle.links.proofs.Spans.{In-span, span-In}
 use Rattle.links.proofs.Rows.{In-others, others-In}
 use Rattle.links.proofs.Tallies.{tally-cut, tally-some, tally-has}
-use Rattle.links.proofs.Grounds.{on-taken, length-is}
+use Rattle.links.proofs.Taken.{on-taken, after-tidy, taken-header}
+use Rattle.links.proofs.Grounds.{length-is}
 use Rattle.links.proofs.Descending.{column→, column←, on-entry}
 use Rattle.blocking.specs.Stops.{stops_at}
-use Rattle.blocking.specs.Undo.{after}
 use Rattle.blocking.specs.Forward.{Clash, out_at, ground_at, rivals_to, ground_to, Outer, Inner, Stopped}
-use Rattle.blocking.proofs.After.{after-tidy, after-header}
 use Rattle.blocking.proofs.Entries.{inner-entry, inner-number, inner-col, inner-within, to-tidy}
 use Rattle.blocking.proofs.Hits.{Hit, hit-foreign, hit-clashes, clashes-hit, hit-rival, hit-gone, own-stays}
 
@@ -222,7 +221,7 @@ module _ {h : Ground} {tints marks : List ℕ} {r s np : ℕ} {heads : List ℤ}
       left-some : 0 < tally h.plan (ground_at h r r).on i
       left-some =
           let u = m.alive i head_of b unmarked was-some in
-          let l : item_of (head heads i) ≡ tally h.plan (ground_at h r r).on i = ap (λ (v : List ℤ). item_of (head v i)) m.holds.heads-are ∙ ap item_of (out-tidy.counts i head_of (after-header h (out_at h r r) tidy m.stage.fresh i head_of ∙ tested.headers i head_of)) in
+          let l : item_of (head heads i) ≡ tally h.plan (ground_at h r r).on i = ap (λ (v : List ℤ). item_of (head v i)) m.holds.heads-are ∙ ap item_of (out-tidy.counts i head_of (taken-header h (out_at h r r) tidy m.stage.fresh i head_of ∙ tested.headers i head_of)) in
           omega arith
 
       last-left : (y : ℕ) × (start h.plan ≤ y) × (y < h.plan.N) × ((ground_at h r r).on y ≡ true) × (h.plan.col y ≡ i) → ⊥

@@ -11,7 +11,7 @@ use Rattle.links.specs.Ground.{Ground, Tidy, taken, Fresh, Holds}
 use Rattle.links.specs.Taking.{gather_to, rival_at}
 use Rattle.blocking.specs.Undo.{Half, Below, Behind}
 use Rattle.blocking.specs.Forward.{Test, out_at, ground_at, rivals_to, ground_to, Inner, Stopped}
-use Rattle.blocking.proofs.After.{held}
+use Rattle.links.proofs.Taken.{holds-taken}
 use Rattle.blocking.proofs.Columns.{rival→}
 use Rattle.blocking.proofs.Upwards.{Above, link-in, step-up}
 use Rattle.blocking.proofs.Stages.{item-entry, ground-tidy, rivals-fresh}
@@ -70,7 +70,7 @@ module _ {h : Ground} {tints marks : List ℕ} {r s np : ℕ} {heads : List ℤ}
         on = rival.0;
         entry = p-row;
         fresh = subst (λ (i : ℕ). Fresh (ground_at h r q) (rivals i)) (sym rival.1) (rivals-fresh I.item p);
-        holds = subst (λ (i : ℕ). Holds (taken (ground_at h r q) (rivals i)) heads' up' down') (sym rival.1) (held (ground_at h r q) (rivals_to h r q p) l);
+        holds = subst (λ (i : ℕ). Holds (taken (ground_at h r q) (rivals i)) heads' up' down') (sym rival.1) (holds-taken (ground_at h r q) (rivals_to h r q p) l);
       })
 
   pub stopped-link : {heads' : List ℤ} {up' down' : List ℕ} → Holds (ground_to h r q p) heads' up' down' → p < length up'
@@ -82,7 +82,7 @@ module _ {h : Ground} {tints marks : List ℕ} {r s np : ℕ} {heads : List ℤ}
 
   -- then the items before q
   pub stopped-behind : {heads' : List ℤ} {up' down' : List ℕ} → Holds (ground_at h r q) heads' up' down' → Behind h tints (q - 1) r s heads' up' down'
-  stopped-behind l = to-behind q I.item.test I.item.from (omega (arith, I.item.till)) I.item.stage.fresh (held h (out_at h r q) l)
+  stopped-behind l = to-behind q I.item.test I.item.from (omega (arith, I.item.till)) I.item.stage.fresh (holds-taken h (out_at h r q) l)
 
 -- Two sets of lists that one ground has are the same.
 pub lists-same : {h : Ground} {heads heads' : List ℤ} {up up' down down' : List ℕ} → Holds h heads up down → Holds h heads' up' down' → (heads' ≡ heads) × (up' ≡ up) × (down' ≡ down)

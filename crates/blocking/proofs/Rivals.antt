@@ -12,7 +12,7 @@ use Rattle.rules.specs.Blocked.{agree}
 use Rattle.links.specs.Head.{item_of, head}
 use Rattle.links.specs.Column.{at}
 use Rattle.links.specs.Plan.{EntryOf, Header, start}
-use Rattle.links.specs.Ground.{Ground, Tidy, taken, Fresh, Holds}
+use Rattle.links.specs.Ground.{Ground, Tidy, taken, Fresh, Holds, after}
 use Rattle.links.specs.Row.{walked}
 use Rattle.links.specs.Taking.{rival_at, rivals, testing}
 use Rattle.links.proofs.Stores.{not_so}
@@ -20,9 +20,8 @@ use Rattle.links.proofs.Plans.{entry-till}
 use Rattle.links.proofs.Rows.{walk_begins, walked_none, full-walked}
 use Rattle.links.proofs.Gathering.{gather_none}
 use Rattle.links.proofs.Descending.{on-entry, reach, reach-past, reach-at, left, step_less}
-use Rattle.blocking.specs.Undo.{after}
 use Rattle.blocking.specs.Forward.{Stage, Alive, out_at, ground_at, Outer, Item, rivals_to, ground_to, Middle, Inner}
-use Rattle.blocking.proofs.After.{after-tidy, after_more}
+use Rattle.links.proofs.Taken.{after-tidy, after_more}
 use Rattle.blocking.proofs.Columns.{rival→, rival←, column-same, down-on, down-col, down-gathered}
 use Rattle.blocking.proofs.Testing.{testing-more}
 use Rattle.blocking.proofs.Stages.{stage-more, item-entry, ground-tidy, rivals-fresh}

@@ -20,11 +20,10 @@ use Rattle.links.specs.Ground.{Ground, Tidy, Within, taken, Fresh}
 use Rattle.links.specs.Row.{walked, others}
 use Rattle.links.specs.Taking.{rival_at, rivals}
 use Rattle.links.proofs.Plans.{row-mate, entry-from, entry-till}
-use Rattle.links.proofs.Rows.{In-walked, In-others, others-In}
-use Rattle.links.proofs.Grounds.{on-taken}
+use Rattle.links.proofs.Rows.{In-walked, In-others, others-In, after-others}
+use Rattle.links.proofs.Taken.{on-taken, after-tidy, after-within, after-fresh, gone-In}
 use Rattle.links.proofs.Gathering.{In-gather, gather-In, gather-fresh}
 use Rattle.blocking.specs.Forward.{Clash, Out, Stage, out_at, ground_at, Item, rivals_to}
-use Rattle.blocking.proofs.After.{after-tidy, after-others, after-within, after-fresh, gone-In}
 use Rattle.blocking.proofs.Columns.{rival→, rival←, rival-entry}
 
 -- before the first item none is out

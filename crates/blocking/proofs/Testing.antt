@@ -2,11 +2,9 @@
 use Prim.Native.Nat.{ℕ}
 use mathlib.Core.Path.{◌≡◌, ◌∙◌, ap, sym}
 use mathlib.Core.List.{List, [], ◌∷◌, ◌++◌, append_assoc, append-nil}
-use Rattle.links.specs.Ground.{Ground, taken}
+use Rattle.links.specs.Ground.{Ground, taken, after}
 use Rattle.links.specs.Taking.{rivals, testing}
-use Rattle.links.proofs.Grounds.{taken-append}
-use Rattle.blocking.specs.Undo.{after}
-use Rattle.blocking.proofs.After.{taken-after}
+use Rattle.links.proofs.Taken.{taken-append, taken-after}
 
 -- one item more
 testing-end : (h : Ground) (qs : List ℕ) (q : ℕ) → testing h (qs ++ (q ∷ [])) ≡ testing h qs ++ rivals (taken h (testing h qs)) q

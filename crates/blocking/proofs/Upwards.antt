@@ -10,18 +10,17 @@ use lib.IntN.{ℤ}
 use Rattle.rules.specs.Blocked.{agree}
 use Rattle.links.specs.Column.{at}
 use Rattle.links.specs.Plan.{start, EntryOf, Header}
-use Rattle.links.specs.Ground.{Ground, Tidy, taken, Fresh, Holds}
+use Rattle.links.specs.Ground.{Ground, Tidy, taken, Fresh, Holds, after}
 use Rattle.links.specs.Row.{walked, others}
 use Rattle.links.specs.Shown.{Tinted}
 use Rattle.links.specs.Taking.{gather_to, rival_at}
 use Rattle.links.proofs.Stores.{not_so}
 use Rattle.links.proofs.Plans.{header-before, entry-till}
-use Rattle.links.proofs.Grounds.{fresh-front}
-use Rattle.links.proofs.Rows.{back-begins, back-begun}
+use Rattle.links.proofs.Taken.{fresh-front, after-tidy, after_more, fresh-after, holds-taken}
+use Rattle.links.proofs.Rows.{back-begins, back-begun, after-others}
 use Rattle.links.proofs.Gathering.{gather-one, gather_none}
 use Rattle.links.proofs.Descending.{on-entry}
-use Rattle.blocking.specs.Undo.{after, Half, rivals_up_to, Below}
-use Rattle.blocking.proofs.After.{after-tidy, after_more, after-others, fresh-after, held}
+use Rattle.blocking.specs.Undo.{Half, rivals_up_to, Below}
 use Rattle.blocking.proofs.Columns.{rival→, rival←, column-same, none-gathered, up-col, up-on, up-falls, up-gathered, last-gathered}
 
 -- A walk up a column has put p's option back, and not gone on yet: the rivals above p are out still.
@@ -93,7 +92,7 @@ module _ {g : Ground} {tints : List ℕ} {p x s : ℕ} {heads : List ℤ} {up do
         on = m.on;
         entry = below-entry;
         fresh = fresh-before;
-        holds = held g (gather_to rival_here g p) l;
+        holds = holds-taken g (gather_to rival_here g p) l;
       }
 
     -- p agrees: nothing was taken there

@@ -5,13 +5,12 @@ use Rattle.rules.specs.Blocked.{agree}
 use Rattle.links.specs.Head.{item_of, head}
 use Rattle.links.specs.Column.{at}
 use Rattle.links.specs.Plan.{lo, hi, EntryOf, Header, start}
-use Rattle.links.specs.Ground.{Ground, taken, Fresh, Holds}
+use Rattle.links.specs.Ground.{Ground, taken, Fresh, Holds, after}
 use Rattle.links.specs.Row.{walked, others}
 use Rattle.links.specs.Way.{reach}
 use Rattle.links.specs.Shown.{Tinted}
 use Rattle.links.specs.Taking.{length_of, gather_to, rival_at, testing, Tested, Marked}
 use Rattle.blocking.specs.Stops.{stops_at}
-use Rattle.blocking.specs.Undo.{after}
 
 -- What the test of r asks of the ground h in which it runs, and of the other lists.
 pub record Test (h : Ground) (tints marks : List ℕ) (r s np : ℕ) : Type 0 where

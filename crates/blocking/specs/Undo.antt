@@ -6,10 +6,6 @@ use Rattle.links.specs.Row.{walked}
 use Rattle.links.specs.Shown.{Tinted}
 use Rattle.links.specs.Taking.{gather_to, rival_at, testing}
 
--- the ground after the nodes xs were taken out: `taken`, with the plan that is still that of g written out
-abbrev pub after : Ground → List ℕ → Ground
-after g xs = record { plan = g.plan; on = (taken g xs).on; heads = (taken g xs).heads; up = (taken g xs).up; down = (taken g xs).down }
-
 -- A walk round p's option has taken out what it passed, up to node qq.
 pub record Half (g : Ground) (p qq : ℕ) (heads : List ℤ) (up down : List ℕ) : Type 0 where
   pub tidy : Tidy g

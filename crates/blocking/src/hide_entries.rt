@@ -32,10 +32,10 @@ pub fn hide_entries(nodes: &mut Nodes, tints: &[u32], marks: &[u32], r: usize) -
             q = nodes.above(q);
             continue;
         };
-        let x = tints[q];
+        let tint = tints[q];
         let mut rr = nodes.below(i);
         while rr >= nodes.start {
-            if clash(x, tints[rr]) {
+            if clash(tint, tints[rr]) {
                 let mut qq = rr + 1;
                 while qq != rr {
                     let Some(j) = nodes.column(qq) else {

@@ -7,10 +7,10 @@ ghost use Rattle.blocking.specs.Stops.{stops_at};
 use links::nodes::Nodes;
 
 // Two entries of one item clash unless they have one equal colour above 0: 0 is no colour, as C lends the list.
-pub fn clash(x: u32, y: u32) -> bool
-    ensures { result ≡ not (agree x y) }
+pub fn clash(tint: u32, other: u32) -> bool
+    ensures { result ≡ not (agree tint other) }
 {
-    x == 0 || x != y
+    tint == 0 || tint != other
 }
 
 // Would one entry less empty column i, of a primary item that carries no mark of r?

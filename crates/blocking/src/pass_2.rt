@@ -8,17 +8,17 @@ use crate::looks::clash;
 use crate::unhide_entries::unhide_entries;
 use links::nodes::Nodes;
 
-// Puts back the other entries of every option that clashes with colour x, from node `from` upwards in its column.
-pub fn pass_2(nodes: &mut Nodes, tints: &[u32], from: usize, x: u32)
-    requires { (g : Ground) × in_nodes (Below g tints.now from x nodes.old.start) nodes.old }
+// Puts back the other entries of every option that clashes with this colour, from node `from` upwards in its column.
+pub fn pass_2(nodes: &mut Nodes, tints: &[u32], from: usize, tint: u32)
+    requires { (g : Ground) × in_nodes (Below g tints.now from tint nodes.old.start) nodes.old }
     ensures nodes { SameNodes nodes.old nodes.new }
-    ensures undone { (g : Ground) → in_nodes (Below g tints.now from x nodes.old.start) nodes.old
+    ensures undone { (g : Ground) → in_nodes (Below g tints.now from tint nodes.old.start) nodes.old
         → in_nodes (Holds g) nodes.new }
 {
     let mut rr = from;
     // up the column's links
     while rr >= nodes.start {
-        if clash(x, tints[rr]) {
+        if clash(tint, tints[rr]) {
             unhide_entries(nodes, rr - 1, rr);
         }
         rr = nodes.above(rr);

@@ -194,8 +194,8 @@ module _ {f : Figures} {np ns n : ℕ} {items colours ends : List ℕ} {heads₀
     turn = record { planned = planned; option = k-in; first = here.first; past = past-at; spelled = spelled_at; so_far = here.so_far }
 
     -- what laying it out asks for
-    pub turn-asks : {m : ℕ} → m ≡ np → (P : Plan) × Turn P m k p its shades heads up down tints
-    turn-asks e = rw e ((plan_of a, turn))
+    pub turn-asks : {m l : ℕ} → m ≡ np → l ≡ k → (P : Plan) × Turn P m l p its shades heads up down tints
+    turn-asks e f = rw (e, f) ((plan_of a, turn))
 
     -- the option behind it
     next-step : (plan_of a).first (k + 1) ≡ (plan_of a).first k + size_of (option_at (starting a) k)
@@ -209,14 +209,14 @@ module _ {f : Figures} {np ns n : ℕ} {items colours ends : List ℕ} {heads₀
         go true t = omega (arith, next-step, here.first, size-live (option_at (starting a) k) (omega (arith, live-length t, primary-some np its t)), live-length t)
         go false t = omega (arith, next-step, here.first, ap size_of (skipped-is t))
 
-    pub place-next : {m r : ℕ} → m ≡ np → r ≡ behind m p its → {heads' : List ℤ} {up' down' tints' : List ℕ}
-        → ((P : Plan) → Turn P m k p its shades heads up down tints → Open P 0 (r + 1) heads' up' down' tints')
+    pub place-next : {m l r : ℕ} → m ≡ np → l ≡ k → r ≡ behind m p its → {heads' : List ℤ} {up' down' tints' : List ℕ}
+        → ((P : Plan) → Turn P m l p its shades heads up down tints → Open P 0 (r + 1) heads' up' down' tints')
         → AtOption np ns items colours ends heads' up' down' tints' r (at ends k) (k + 1)
-    place-next e q L = record {
+    place-next e f q L = record {
       within = omega arith;
       from = sym (ap (end_before 0 ends) (add-one k));
       first = next-first ∙ ap (λ (z : ℕ). z + 1) (sym (q ∙ ap (λ (z : ℕ). behind z p its) e));
-      so_far = L (plan_of a) (rw e turn);
+      so_far = L (plan_of a) (rw (e, f) turn);
     }
 
   -- Behind the last option the lists hold the problem.

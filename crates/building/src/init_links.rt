@@ -9,6 +9,7 @@ use crate::close::close_columns;
 use crate::option::put_option;
 use links::nodes::Nodes;
 use rules::lent::Lists;
+use rules::number::Opt;
 
 // All of it: headers, and the options in their order. An option without a primary item keeps its number and gets no nodes.
 pub fn init_links(nodes: &mut Nodes, tints: &mut [u32], marks: &mut [u32], lists: &Lists)
@@ -29,7 +30,7 @@ pub fn init_links(nodes: &mut Nodes, tints: &mut [u32], marks: &mut [u32], lists
         edge = put_option(
             nodes,
             tints,
-            k as u32,
+            Opt::from(k as u32),
             edge,
             &lists.items[begin..end],
             &lists.colours[begin..end],

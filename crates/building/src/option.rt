@@ -8,6 +8,7 @@ ghost use Rattle.building.specs.Build.{primary_in, Turn, behind};
 
 use crate::entries::put_entries;
 use links::nodes::Nodes;
+use rules::number::Opt;
 
 // Some item of an option is below np.
 pub fn has_primary(items: &[u32], np: usize) -> bool
@@ -17,10 +18,10 @@ pub fn has_primary(items: &[u32], np: usize) -> bool
 }
 
 // The boundary `next` after option k, whose entries are those behind boundary `edge`.
-pub fn put_spacer(nodes: &mut Nodes, edge: usize, next: usize, k: u32)
-    requires { (edge < next) × (next < node_bound) × (k < node_bound) × (next < length nodes.old.heads.now) × (next < length nodes.old.up.now) × (edge < length nodes.old.down.now) }
+pub fn put_spacer(nodes: &mut Nodes, edge: usize, next: usize, k: Opt)
+    requires { (edge < next) × (next < node_bound) × (k.0 < node_bound) × (next < length nodes.old.heads.now) × (next < length nodes.old.up.now) × (edge < length nodes.old.down.now) }
     ensures nodes { SameNodes nodes.old nodes.new }
-    ensures heads { nodes.new.heads.now ≡ slice_set nodes.old.heads.now next (negsuc k) }
+    ensures heads { nodes.new.heads.now ≡ slice_set nodes.old.heads.now next (negsuc k.0) }
     ensures up { nodes.new.up.now ≡ slice_set nodes.old.up.now next (edge + 1) }
     ensures down { nodes.new.down.now ≡ slice_set nodes.old.down.now edge (next - 1) }
 {
@@ -36,16 +37,16 @@ pub fn put_spacer(nodes: &mut Nodes, edge: usize, next: usize, k: u32)
 pub fn put_option(
     nodes: &mut Nodes,
     tints: &mut [u32],
-    k: u32,
+    k: Opt,
     edge: usize,
     items: &[u32],
     colours: &[u32],
 ) -> usize
     requires lengths { length colours.now ≡ length items.now }
-    requires turn { (P : Plan) × in_nodes (Turn P nodes.old.np k edge items.now colours.now) nodes.old tints.old }
+    requires turn { (P : Plan) × in_nodes (Turn P nodes.old.np k.0 edge items.now colours.now) nodes.old tints.old }
     ensures nodes { SameNodes nodes.old nodes.new }
     ensures place { result ≡ behind nodes.old.np edge items.now }
-    ensures laid { (P : Plan) → in_nodes (Turn P nodes.old.np k edge items.now colours.now) nodes.old tints.old
+    ensures laid { (P : Plan) → in_nodes (Turn P nodes.old.np k.0 edge items.now colours.now) nodes.old tints.old
         → in_nodes (Open P 0 (result + 1)) nodes.new tints.new }
 {
     if !has_primary(items, nodes.np) {

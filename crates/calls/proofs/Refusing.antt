@@ -8,7 +8,7 @@ use Rattle.rules.specs.Problem.{figures, problem_of}
 use Rattle.rules.specs.Rooms.{Handed}
 use Rattle.rules.specs.Rounds.{reduce}
 use Rattle.rules.specs.Checks.{refusal_of}
-use Rattle.rules.specs.Refusals.{number_of, refusal_in}
+use Rattle.rules.specs.Refusals.{as_paper, refusal_in}
 use Rattle.rules.specs.Paper.{said_refused}
 use Rattle.rules.specs.Outcome.{Outcome, concluded, outcome_of}
 use Rattle.theorems.proofs.Answers.OneOutcome.{refused-nothing-written, outcome-found}
@@ -17,7 +17,7 @@ use Rattle.checking.proofs.Telling.{refuses, passes}
 
 module _ (h : Handed) {c : Result Problem Refusal} (told : refusal_in c ≡ refusal_of figures false h) where
   -- a refusal writes nothing
-  pub refused : {r : Refusal} → c ≡ Err r → outcome (said_refused (number_of r.check) r.place) h.room h.results ≡ outcome_of h
+  pub refused : {r : Refusal} → c ≡ Err r → outcome (said_refused (as_paper r)) h.room h.results ≡ outcome_of h
   refused k = sym (refused-nothing-written h _ (refuses told k))
 
   -- all else is what the rounds find

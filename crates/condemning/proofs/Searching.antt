@@ -10,21 +10,19 @@ use lib.Dec.{T, leb, eqb}
 use lib.ListN.{set}
 use lib.IntN.{ℤ}
 use Rattle.theorems.proofs.Words.Tests.{T_true, T_and}
-use Rattle.theorems.proofs.Words.Lists.{any-cong}
 use Rattle.links.specs.Head.{item_of, head}
 use Rattle.links.specs.Column.{at}
 use Rattle.links.specs.Plan.{start, lo, EntryOf, Header, Planned}
 use Rattle.links.specs.Ground.{Ground, Holds, taken}
-use Rattle.links.specs.Row.{span, full, first_live}
+use Rattle.links.specs.Row.{first_live}
 use Rattle.links.specs.Shown.{Ready}
 use Rattle.links.specs.Taking.{in_column, hides, node_blocked, Tested}
 use Rattle.links.proofs.Stores.{same?}
-use Rattle.links.proofs.Plans.{entry-no-header, row-mate}
-use Rattle.links.proofs.Spans.{In-span}
-use Rattle.links.proofs.Grounds.{on-taken, taken-head}
+use Rattle.links.proofs.Taken.{on-taken, taken-entry-head}
+use Rattle.links.proofs.Rows.{after-first}
 use Rattle.links.proofs.Descending.{Stand, column→, column←, on-entry, reach, stand-header, stand-next, step-gap, step-far, header-gap}
 use Rattle.showing.specs.Showing.{full_before, condemned_at}
-use Rattle.showing.proofs.HiddenStates.{hiding, hiding-is, hides-fresh, hiding-tidy, hiding-own, hiding-full}
+use Rattle.showing.proofs.HiddenStates.{hiding, hiding-is, hides-fresh, hiding-tidy, hiding-own}
 use Rattle.showing.proofs.TestedNode.{tested-hidden}
 use Rattle.links.specs.Lead.{Led, Leads}
 use Rattle.condemning.specs.Marks.{Known, Marking}
@@ -58,12 +56,10 @@ module _ (g : Ground) (R : Ready g) (i : ℕ) where
 
   -- entries keep their heads, so the same entries are first
   head-same : (y : ℕ) → EntryOf g.plan y → head (hiding g i).heads y ≡ head g.heads y
-  head-same y e = taken-head g (hides g (i + 1)) R.tidy (hides-fresh g R i) y (entry-no-header g.plan W y e)
+  head-same = taken-entry-head g (hides g (i + 1)) R.tidy (hides-fresh g R i)
 
   first-same : (r : ℕ) → EntryOf g.plan r → first_live (hiding g i) r ≡ first_live g r
-  first-same r e =
-      ap not (any-cong (full (hiding g i).heads) (full g.heads) (span (lo g.plan r) r)
-      (λ y m. let w = In-span (lo g.plan r) r m in hiding-full g R i y (row-mate g.plan W r y e w.0 (omega (arith, w.1, e.till)))))
+  first-same = after-first g (hides g (i + 1)) R.tidy (hides-fresh g R i)
 
   -- what is known of the marks is known while the item is hidden, and afterwards
   pub known-hidden : (marks : List ℕ) → Known g g.on marks → Known (hiding g i) g.on marks
@@ -71,9 +67,6 @@ module _ (g : Ground) (R : Ready g) (i : ℕ) where
 
   pub hidden-known : (marks : List ℕ) → Known (hiding g i) g.on marks → Known g g.on marks
   hidden-known marks k = known-pass (hiding g i) g g.on g.on marks refl (λ y o. o) (λ y z a o e q. sym (head-same z e)) k
-
-  pub hidden-holds : {heads : List ℤ} {up down : List ℕ} → Holds (taken g (hides g (i + 1))) heads up down → Holds (hiding g i) heads up down
-  hidden-holds w = record { heads-are = w.heads-are; up-are = w.up-are; down-are = w.down-are }
 
   module _ (r : ℕ) (c : in_column g (i + 1) r ≡ true) where
     entry : EntryOf g.plan r

@@ -8,25 +8,22 @@ use mathlib.Core.List.Memᴰ.{append_left as In-append-l}
 use mathlib.Core.List.Memᴰ.{append_right as In-append-r}
 use mathlib.Core.List.Memᴰ.{head as here}
 use mathlib.Core.List.{List, [], ◌∷◌, ◌++◌, append_assoc, append-nil, Memᴰ as In}
-use lib.Dec.{T, ltb, eqb}
+use lib.Dec.{T, eqb}
 use lib.ListN.{length}
 use lib.IntN.{ℤ}
 use Rattle.theorems.proofs.Words.Tests.{T_true, T_and}
-use Rattle.theorems.proofs.Words.Lists.{any-cong, each_append}
-use Rattle.links.specs.Head.{item_of}
+use Rattle.theorems.proofs.Words.Lists.{each_append}
 use Rattle.links.specs.Column.{at}
 use Rattle.links.specs.Plan.{lo, EntryOf, Planned}
-use Rattle.links.specs.Ground.{Ground, Tidy, Within, Holds, Fresh, taken}
-use Rattle.links.specs.Row.{span, full, others, walked, first_live}
+use Rattle.links.specs.Ground.{Ground, Tidy, Within, Holds, Fresh, taken, after}
+use Rattle.links.specs.Row.{others, first_live}
 use Rattle.links.specs.Shown.{Ready}
 use Rattle.links.specs.Taking.{in_column, hides, node_blocked, first_out}
-use Rattle.links.proofs.Plans.{entry-from, entry-no-header, row-mate}
-use Rattle.links.proofs.Spans.{In-span}
-use Rattle.links.proofs.Grounds.{taken-append, taken-tidy, taken-head, fresh-within, fresh-front, fresh-rest}
-use Rattle.links.proofs.Rows.{walked-taken}
+use Rattle.links.proofs.Plans.{entry-from}
+use Rattle.links.proofs.Rows.{after-others, after-first}
+use Rattle.links.proofs.Taken.{after-tidy, holds-after, taken-append, fresh-within, fresh-front, fresh-rest, taken-after}
 use Rattle.links.proofs.Descending.{column→, on-entry}
 use Rattle.showing.specs.Showing.{full_before, deletes, Condemns, condemned_at}
-use Rattle.showing.proofs.HiddenStates.{after, taken-after}
 use Rattle.showing.proofs.Deleted.{deletes-fresh, condemned-apart}
 use Rattle.removing.specs.Deleting.{Deleting, Deleted}
 use Rattle.removing.proofs.Emptying.{first_some, first-none}
@@ -128,13 +125,10 @@ module _ (g : Ground) (R : Ready g) (i np : ℕ) (C : Condemns np i g (down_to (
 
       -- the ground without those that are deleted, its plan in plain sight
       now-tidy : Tidy (after g (deletes g d.done))
-      now-tidy = subst Tidy (taken-after g (deletes g d.done)) (taken-tidy g (deletes g d.done) R.tidy fresh-done)
+      now-tidy = after-tidy g (deletes g d.done) R.tidy fresh-done
 
       now-others : others (after g (deletes g d.done)) r ≡ others g r
-      unfolding others
-      now-others =
-          ap (λ (x : Ground). walked x r r) (sym (taken-after g (deletes g d.done)))
-          ∙ walked-taken g R.tidy (deletes g d.done) fresh-done r at_entry r (omega (arith, at_entry.till))
+      now-others = after-others g (deletes g d.done) R.tidy fresh-done r at_entry
 
       -- what the deletion asks
       within-next : (y : ℕ) → In y (others g r ++ (r ∷ [])) → Within (after g (deletes g d.done)) y
@@ -145,7 +139,7 @@ module _ (g : Ground) (R : Ready g) (i np : ℕ) (C : Condemns np i g (down_to (
         tidy = now-tidy;
         entry = at_entry;
         others-in = λ y m. within-next y (In-append-l (r ∷ []) (subst (In y) now-others m));
-        holds = record { heads-are = d.holds.heads-are; up-are = d.holds.up-are; down-are = d.holds.down-are };
+        holds = holds-after g (deletes g d.done) d.holds;
       }
 
       pub at-within : Within (after g (deletes g d.done)) r
@@ -186,24 +180,18 @@ module _ (g : Ground) (R : Ready g) (i np : ℕ) (C : Condemns np i g (down_to (
                 ∙ sym (taken-append g (deletes g d.done) (others g r ++ (r ∷ [])))
                 ∙ ap (taken g) (sym more)
 
+        then-fresh : Fresh g (deletes g (d.done ++ (r ∷ [])))
+        then-fresh = subst (Fresh g) (sym more) (fresh-front g (deletes g d.done ++ (others g r ++ (r ∷ []))) (deletes g (down_to (condemned_at np i g) r)) fresh)
+
         -- the boundary before r's option is found from r
         pub deleted-led : z ≡ 0 → Led (after g (deletes g (d.done ++ (r ∷ [])))) r heads' down'
         unfolding deletes-next
-        deleted-led e = let w = (deletes-next e).holds in record { tidy = then-tidy; entry = at_entry; heads-are = w.heads-are; down-are = w.down-are }
-          where
-            then-tidy : Tidy (after g (deletes g (d.done ++ (r ∷ []))))
-            then-tidy = subst Tidy (taken-after g (deletes g (d.done ++ (r ∷ [])))) (taken-tidy g (deletes g (d.done ++ (r ∷ []))) R.tidy (subst (Fresh g) (sym more) (fresh-front g (deletes g d.done ++ (others g r ++ (r ∷ []))) (deletes g (down_to (condemned_at np i g) r)) fresh)))
+        deleted-led e =
+            let w = (deletes-next e).holds in
+            record { tidy = after-tidy g (deletes g (d.done ++ (r ∷ []))) R.tidy then-fresh; entry = at_entry; heads-are = w.heads-are; down-are = w.down-are }
 
         pub deleted-lead : z ≡ 0 → {q : ℕ} → Leads (after g (deletes g (d.done ++ (r ∷ [])))) r q → q ≡ lo g.plan r - 1
-        deleted-lead e l = l.before (same ∙ first-is r rest.1)
-          where
-            then-fresh : Fresh g (deletes g (d.done ++ (r ∷ [])))
-            then-fresh = subst (Fresh g) (sym more) (fresh-front g (deletes g d.done ++ (others g r ++ (r ∷ []))) (deletes g (down_to (condemned_at np i g) r)) fresh)
-
-            same : first_live (after g (deletes g (d.done ++ (r ∷ [])))) r ≡ first_live g r
-            same =
-                ap not (any-cong (full (taken g (deletes g (d.done ++ (r ∷ [])))).heads) (full g.heads) (span (lo g.plan r) r)
-                (λ y m. let w = In-span (lo g.plan r) r m in ap (λ (x : ℤ). ltb 0 (item_of x)) (taken-head g (deletes g (d.done ++ (r ∷ []))) R.tidy then-fresh y (entry-no-header g.plan W y (row-mate g.plan W r y at_entry w.0 (omega (arith, w.1, at_entry.till)))))))
+        deleted-lead e l = l.before (after-first g (deletes g (d.done ++ (r ∷ []))) R.tidy then-fresh r at_entry ∙ first-is r rest.1)
 
       -- the next is lower
       pub next-lower : at tints (lo g.plan r - 1) < r

@@ -15,7 +15,7 @@ use Rattle.links.specs.Column.{at}
 use Rattle.links.specs.Plan.{EntryOf}
 use Rattle.links.specs.Ground.{Ground, Holds}
 use Rattle.links.specs.Row.{first_live}
-use Rattle.links.specs.Taking.{node_blocked, Marked}
+use Rattle.links.specs.Taking.{hides, node_blocked, Marked}
 use Rattle.links.proofs.Plans.{entry-from, entry-till}
 use Rattle.links.proofs.Descending.{column→, on-entry}
 use Rattle.showing.specs.Showing.{condemned_at}
@@ -24,7 +24,8 @@ use Rattle.blocking.specs.Forward.{Test}
 use Rattle.links.specs.Lead.{Led, Leads}
 use Rattle.condemning.specs.Marks.{Known, Marking}
 use Rattle.condemning.specs.Search.{Chain, Tried, Trying}
-use Rattle.condemning.proofs.Searching.{hidden-known, hidden-holds, search-led, search-marking, search-tested, led-first, led-before, coloured-not, later-not, tested-is, tried-not, tried-yes}
+use Rattle.links.proofs.Taken.{holds-after}
+use Rattle.condemning.proofs.Searching.{hidden-known, search-led, search-marking, search-tested, led-first, led-before, coloured-not, later-not, tested-is, tried-not, tried-yes}
 use Rattle.condemning.proofs.Sparing.{down-front}
 
 -- The option of r is tested: the node q leads it and has no item, r is uncoloured, and its items are marked.
@@ -99,7 +100,7 @@ module _ {g : Ground} {i r first np z : ℕ} {heads : List ℤ} {up down tints m
         (tried-yes g t.ready i r t.column np (tested ∙ b) marked-tried)
 
   pub try_holds : Holds (hiding g i) heads up down
-  try_holds = hidden-holds g t.ready i t.holds
+  try_holds = holds-after g (hides g (i + 1)) t.holds
 
   -- the chain begins at a node, or at 0
   pub try-small : z < node_bound

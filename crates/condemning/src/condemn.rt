@@ -9,10 +9,10 @@ ghost use Rattle.condemning.specs.Search.{down_to, Search, Hiding, Tried, Trying
 
 use crate::chain::{chain, chained};
 use crate::mark::mark_items;
+use blocking::blocked::blocked;
 use links::emptied::Emptied;
 use links::nodes::Nodes;
 use removing::delete::really_delete_option;
-use blocking::blocked::blocked;
 
 // Tests the option of node r of column c, if r is its first live entry and uncoloured. A blocked one goes to the front of the chain.
 fn test_at(

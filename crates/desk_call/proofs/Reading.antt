@@ -42,7 +42,7 @@ module _ (g : Given ℕ) (bytes : Results) where
   abbrev pub sized : Option Refusal
   sized = size_refusal desk_figures uneven g.np g.ns (numbers_of g.items.now) (numbers_of g.colours.now) (numbers_of g.ends.now)
 
-  pub counts-refused : {r : Refusal} → sized ≡ some r → serving (said_refused r.number r.place) bytes ≡ served uneven h bytes
+  pub counts-refused : {r : Refusal} → sized ≡ some r → serving (said_refused r) bytes ≡ served uneven h bytes
   counts-refused {r} e = refused-served uneven h bytes _ (at-sizes desk_figures uneven h r e)
 
   -- the problem that its constructor makes of these counts

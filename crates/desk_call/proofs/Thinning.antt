@@ -56,7 +56,7 @@ results-enough n E M a b c =
 -- What the call comes to, refused and found
 
 pub refused-served : (ragged : Bool) (h : Handed) (bytes : Results) (r : Refusal) → refusal_of desk_figures ragged h ≡ some r
-    → serving (said_refused r.number r.place) bytes ≡ served ragged h bytes
+    → serving (said_refused r) bytes ≡ served ragged h bytes
 unfolding served
 refused-served ragged h bytes r e = rw (outcome-refused desk_figures ragged h r e, e) refl
 

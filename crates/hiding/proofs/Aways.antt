@@ -21,7 +21,8 @@ use Rattle.links.specs.Ground.{Ground, Tidy, Within, cut_one, taken, Holds}
 use Rattle.links.proofs.Stores.{same?, not_so, read_set}
 use Rattle.links.proofs.Plans.{entry-not-col}
 use Rattle.links.proofs.Rings.{without-off, above_in, below_in, down-stays, above_before, above-col}
-use Rattle.links.proofs.Grounds.{node_in, cut-up-off, cut-down-off, tidy-cut, taken-lengths}
+use Rattle.links.proofs.Taken.{taken-lengths}
+use Rattle.links.proofs.Grounds.{node_in, cut-up-off, cut-down-off, tidy-cut}
 use Rattle.hiding.specs.Away.{Rising, Away}
 use Rattle.hiding.proofs.Spending.{more-asks, more-back}
 use Rattle.hiding.proofs.Rises.{rising-once, rising-next, rising-fresh}

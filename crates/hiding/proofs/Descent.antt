@@ -14,13 +14,13 @@ use Rattle.links.specs.Row.{others}
 use Rattle.links.specs.Taking.{gather_to, hidden, hides, last_out}
 use Rattle.links.specs.Nodes.{column}
 use Rattle.links.proofs.Stores.{same?}
-use Rattle.links.proofs.Grounds.{taken-append, taken-plan, taken-tidy, within-taken}
+use Rattle.links.proofs.Taken.{taken-append, taken-plan, taken-tidy, within-taken}
 use Rattle.links.proofs.Rows.{others-taken}
 use Rattle.links.proofs.Gathering.{gather-one, gather_none}
 use Rattle.links.proofs.Descending.{reach, left, Stand, reach-past, reach-at, stand-next, step_less}
 use Rattle.hiding.specs.Hiding.{Around, Column, Taken}
 use Rattle.hiding.specs.Away.{Rising}
-use Rattle.hiding.proofs.Pushing.{last_out-append}
+use Rattle.hiding.proofs.LastOut.{last_out-append}
 use Rattle.hiding.proofs.Rises.{rising-apart}
 use Rattle.hiding.proofs.Aways.{away-taken}
 use Rattle.hiding.proofs.Gathered.{hidden-within, gathered-rising, gathered-fresh, gathered-off-column}

@@ -1,10 +1,8 @@
-pub mod Places
-pub mod Pushing
+pub mod LastOut
 pub mod Round
 pub mod Spending
 pub mod Rises
 pub mod Aways
-pub mod Ahead
 pub mod RoundBack
 pub mod Order
 pub mod Gathered

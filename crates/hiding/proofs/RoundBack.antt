@@ -15,13 +15,12 @@ use Rattle.links.specs.Row.{others}
 use Rattle.links.specs.Way.{way}
 use Rattle.links.specs.Nodes.{column_in}
 use Rattle.links.proofs.Endings.{item_none, item_some}
-use Rattle.links.proofs.Grounds.{taken-head}
-use Rattle.links.proofs.Rows.{At, place_in, walk_begins, full-head, full_at, over-at, over-way}
+use Rattle.links.proofs.Taken.{taken-head}
+use Rattle.links.proofs.Rows.{At, place_in, walk_begins, full-head, full_at, over-at, over-way, place-no-header, empty-off}
 use Rattle.hiding.specs.Away.{Rising, Away, Returning}
-use Rattle.hiding.proofs.Places.{place-no-header, empty-off}
 use Rattle.hiding.proofs.Rises.{rising-fresh}
 use Rattle.hiding.proofs.Aways.{away-room, relink-asks, more-in, away-back}
-use Rattle.hiding.proofs.Ahead.{ahead, ahead-all, ahead_none, ahead-full, ahead-over}
+use Rattle.links.proofs.Ahead.{ahead, ahead-all, ahead_none, ahead-full, ahead-over}
 
 -- The walk from rr on stands at nn: what is ahead of it is away, and the rest.
 pub record RoundBack (g : Ground) (rr : ℕ) (rest : List ℕ) (heads : List ℤ) (up down : List ℕ) (nn : ℕ) : Type 0 where

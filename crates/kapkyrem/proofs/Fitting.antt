@@ -36,7 +36,7 @@ module _ {p s o : ℕ} {f : Figures} (small : FiguresFit p s o f) (ragged : Bool
   alike : (a b : Answer) → paper a ≡ paper b → Fits p s o b → Fits p s o a
   alike a b e fits = subst (Fits p s o) (sym (paper-one a b e)) fits
 
-  refused : (r : Refusal) → refusal_of f ragged h ≡ some r → RefusalFits r.number r.place
+  refused : (r : Refusal) → refusal_of f ragged h ≡ some r → RefusalFits r
   refused r e =
       let t = tabled f ragged h r e in
       let n = number-range t in
@@ -82,4 +82,4 @@ module _ {p s o : ℕ} {f : Figures} (small : FiguresFit p s o f) (ragged : Bool
       go none e = answered a e (reduce (problem_of h.np h.ns h.items h.colours h.ends) h.cap) refl q
       go (some r) e =
           let o = refused-one a (q ∙ ap (λ (z : Outcome). z.said) (outcome-refused f ragged h r e)) in
-          rw (o.1, o.2, o.3) (refused r e)
+          rw (o.1, o.2) (refused r e)

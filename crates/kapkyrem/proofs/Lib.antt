@@ -2,4 +2,5 @@
 pub mod Fields
 pub mod Fitting
 pub mod Telling
+pub mod Packing
 pub mod OneOutcome

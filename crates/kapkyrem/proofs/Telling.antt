@@ -13,8 +13,8 @@ use Rattle.desk_call.specs.Desk.{Served, serving, served}
 use Rattle.kapkyrem.specs.Packed.{packed_desk, packed_lists, Fits}
 use mathlib.Core.List.{List}
 use Rattle.rules.specs.Renumber.{Renumbered}
-use Rattle.renumbering.specs.Outcome.{Renumbering, refusal, refusal_number, refusal_place, packed, outcome as renumbered}
-use Rattle.kapkyrem.specs.Calls.{called, called_lists, called_desk, called_bytes, called_compact, called_renumbered}
+use Rattle.renumbering.specs.Outcome.{Renumbering, refusal, outcome as renumbered}
+use Rattle.kapkyrem.specs.Calls.{called, called_lists, called_desk, called_bytes, called_compact, packed_renumbered, called_renumbered}
 use Rattle.kapkyrem.proofs.Fitting.{FiguresFit, answer-fits}
 
 -- Both sets of figures leave every field its room.
@@ -42,6 +42,6 @@ module _ (ragged : Bool) (h : Handed) (bytes : Results) (a : Answer) {results : 
   bytes-called k = ap (λ (n : ℕ). called_desk n results) k ∙ ap called_bytes e
 
 -- Compact numbers
-pub compact-called : (r : Renumbering) (x : Renumbered) {out : List ℕ} {answer : ℕ} → renumbered r out ≡ x → answer ≡ packed (refusal_number (refusal r)) (refusal_place (refusal r))
+pub compact-called : (r : Renumbering) (x : Renumbered) {out : List ℕ} {answer : ℕ} → renumbered r out ≡ x → answer ≡ packed_renumbered (refusal r)
     → called_compact answer out ≡ called_renumbered x
 compact-called r x {out} e k = ap (λ (n : ℕ). called_compact n out) k ∙ ap called_renumbered e

@@ -1,11 +1,12 @@
 -- What a call from C comes to: the number that it hands back, and every list that was lent, as it is afterwards. Assumes nothing.
-use Rattle.std.specs.Prelude.{ℕ, List}
+use Rattle.std.specs.Prelude.{ℕ, ◌%◌, ◌^◌, List}
+use Rattle.std.proofs.Math.Option.{Option, none, some}
 use Rattle.rules.specs.Rooms.{Room, Results}
+use Rattle.rules.specs.Checks.{Refusal}
 use Rattle.rules.specs.Outcome.{Outcome}
 use Rattle.rules.specs.Renumber.{Renumbered}
-use Rattle.renumbering.specs.Outcome.{packed}
 use Rattle.desk_call.specs.Desk.{Served}
-use Rattle.kapkyrem.specs.Packed.{packed_desk, packed_lists}
+use Rattle.kapkyrem.specs.Packed.{packed_refusal, packed_desk, packed_lists}
 
 pub record Called : Type 0 where
   pub answer : ℕ
@@ -39,6 +40,13 @@ pub record CalledCompact : Type 0 where
 abbrev pub called_compact : ℕ → List ℕ → CalledCompact
 called_compact answer out = record { answer = answer; out = out }
 
--- 0 if done, else number + 256 x place
+-- Done is number 0, place 0. A place has the upper 56 bits, which any item list of up to 2 ^ 58 bytes keeps to.
+abbrev pub told : Option Refusal → Refusal
+told none = record { number = 0; place = 0 }
+told (some r) = record { number = r.number; place = r.place % 2 ^ 56 }
+
+abbrev pub packed_renumbered : Option Refusal → ℕ
+packed_renumbered r = packed_refusal (told r)
+
 abbrev pub called_renumbered : Renumbered → CalledCompact
-called_renumbered r = called_compact (packed r.number r.place) r.out
+called_renumbered r = called_compact (packed_renumbered r.refusal) r.out

@@ -2,6 +2,7 @@
 use Rattle.std.proofs.Common.{◌≡◌, ℕ, zero, suc, refl, sym, ◌∙◌, ap, arith, rules, ◌≢◌, ◌<◌, is_some, true, false, ℤ, pos, negsuc, Option, Result, Some, None, Ok, Err}
 use mathlib.Core.Path.{subst}
 use mathlib.Core.Bool.{true≢false}
+use Rattle.rules.specs.declared.number.Opt.{Opt}
 use Rattle.links.specs.Head.{item_of, option_of, below_zero}
 use Rattle.links.specs.Nodes.{column, column_in, option_in}
 use Rattle.links.specs.Ending.{ending}
@@ -31,7 +32,7 @@ pub option_none : (h : ℤ) → None ≡ option_in h → below_zero h ≡ false
 option_none (pos i) e = refl
 option_none (negsuc k) e = search rules
 
-pub option_some : (h : ℤ) (k : ℕ) → Some k ≡ option_in h → (below_zero h ≡ true) × (option_of h ≡ k)
+pub option_some : (h : ℤ) (k : Opt) → Some k ≡ option_in h → (below_zero h ≡ true) × (option_of h ≡ k.0)
 option_some (pos i) k e = search rules
 option_some (negsuc j) k e = search (rules, arith)
 
@@ -48,7 +49,7 @@ ending_of zero l = absurd (omega (arith, l))
 ending_of (suc i) l = refl
 
 -- and by the tests that ask only whether there is one
-pub option_is : {o : Option ℕ} (h : ℤ) → o ≡ option_in h → is_some o ≡ below_zero h
+pub option_is : {o : Option Opt} (h : ℤ) → o ≡ option_in h → is_some o ≡ below_zero h
 option_is (pos i) e = ap is_some e
 option_is (negsuc k) e = ap is_some e
 

@@ -26,7 +26,7 @@ use Rattle.links.specs.Taking.{gather_to}
 use Rattle.links.proofs.Stores.{same?}
 use Rattle.links.proofs.Spans.{In-span}
 use Rattle.links.proofs.Rows.{In-others}
-use Rattle.links.proofs.Grounds.{fresh-of}
+use Rattle.links.proofs.Taken.{fresh-of}
 
 -- A walk round an option meets each node once.
 pub others-distinct : (g : Ground) (p : ℕ) → T (distinct (others g p))

@@ -4,8 +4,14 @@ pub mod Rings
 pub mod Plans
 pub mod Tallies
 pub mod Grounds
+pub mod Taken
+pub mod Determined
+pub mod Undoing
 pub mod Spans
 pub mod Rows
+pub mod Ahead
+pub mod Onward
+pub mod Backward
 pub mod Gathering
 pub mod Descending
 pub mod Leading

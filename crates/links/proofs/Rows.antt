@@ -3,22 +3,23 @@ use Prim.Native.Nat.{ℕ, ◌+◌, ◌-◌, ◌<◌, ◌≤◌}
 use native.Mathlib.Omega.{arith}
 use mathlib.Core.Path.{◌≡◌, ◌∙◌, ap, sym, subst}
 use mathlib.Core.Logic.{◌⊎◌, inl, inr, ⊎_elim, ◌≢◌}
-use mathlib.Core.Bool.{true, false, cond}
+use mathlib.Core.Bool.{true, false, not}
 use mathlib.Core.List.{List, [], ◌∷◌, ◌++◌, Memᴰ as In}
 use borrow.Author.Tests.{lt-ltb, le-ltb, ltb-true}
 use lib.Dec.{T, ltb}
 use lib.IntN.{ℤ, pos}
 use Rattle.theorems.proofs.Words.Tests.{T_true}
-use Rattle.theorems.proofs.Words.Lists.{keep-cong}
+use Rattle.theorems.proofs.Words.Lists.{keep-cong, any-cong}
+use Rattle.rules.specs.Lists.{keep}
 use Rattle.links.specs.Head.{item_of, head}
 use Rattle.links.specs.Column.{at}
-use Rattle.links.specs.Plan.{Plan, start, lo, hi, EntryOf, Planned}
-use Rattle.links.specs.Ground.{Ground, Edge, Tidy, taken, Fresh}
-use Rattle.links.specs.Row.{span, full, passed, walked, others}
+use Rattle.links.specs.Plan.{Plan, start, lo, hi, EntryOf, Header, Planned}
+use Rattle.links.specs.Ground.{Ground, Edge, Tidy, taken, after, Fresh}
+use Rattle.links.specs.Row.{span, full, passed, walked, others, first_live}
 use Rattle.links.specs.Way.{way, way_back}
-use Rattle.links.proofs.Stores.{same?}
-use Rattle.links.proofs.Plans.{entry_row, entry-no-header, row-till, row-mate}
-use Rattle.links.proofs.Grounds.{taken-plan, taken-head}
+use Rattle.links.proofs.Stores.{same?, less?, not_so}
+use Rattle.links.proofs.Plans.{entry_row, header-before, row-till, row-mate}
+use Rattle.links.proofs.Taken.{taken-plan, taken-entry-head, taken-after}
 use Rattle.links.proofs.Spans.{In-span, passed-begin, passed-full, passed_over, passed-edge, In-passed, passed-all, way_next, way-jump, back-next, back-jump}
 
 -- a node with an item is full, one with none is not
@@ -186,21 +187,65 @@ module _ (g : Ground) (t : Tidy g) (p : ℕ) (e : EntryOf g.plan p) where
       passed-all g.heads (lo g.plan p) (hi g.plan p) p (subst (λ (k : ℕ). g.plan.first k ≤ y) s b.from) (subst (λ (k : ℕ). y < g.plan.past k) s b.till) n
       (lib.Dec.lt→ltb 0 (item_of (head g.heads y)) (rw h (W.entry y b).above))
 
--- Nodes taken out leave the walk as it is.
-pub walked-taken : (g : Ground) (t : Tidy g) (xs : List ℕ) → Fresh g xs → (p : ℕ) → EntryOf g.plan p → (nn : ℕ) → nn ≤ hi g.plan p → walked (taken g xs) p nn ≡ walked g p nn
-walked-taken g t xs f p e nn k =
-    let same = taken-plan g xs in
-    ap (λ (P : Plan). passed (taken g xs).heads (lo P p) (hi P p) p nn) same
-    ∙ joined (keep-cong (full (taken g xs).heads) (full g.heads) (span (p + 1) nn) (λ y m. let w = In-span (p + 1) nn m in one y (omega (arith, w.0, e.from)) (omega (arith, w.1))))
-    (keep-cong (full (taken g xs).heads) (full g.heads) (span (p + 1) (hi g.plan p)) (λ y m. let w = In-span (p + 1) (hi g.plan p) m in one y (omega (arith, w.0, e.from)) w.1))
-    (keep-cong (full (taken g xs).heads) (full g.heads) (span (lo g.plan p) nn) (λ y m. let w = In-span (lo g.plan p) nn m in one y w.0 (omega (arith, w.1))))
-  where
-    one : (y : ℕ) → lo g.plan p ≤ y → y < hi g.plan p → full (taken g xs).heads y ≡ full g.heads y
-    one y a b = ap (λ (z : ℤ). ltb 0 (item_of z)) (taken-head g xs t f y (entry-no-header g.plan t.planned y (row-mate g.plan t.planned p y e a b)))
+-- A place is behind the headers, and in no column where it has no item.
+module _ {g : Ground} (t : Tidy g) {p : ℕ} (e : EntryOf g.plan p) where
+  module _ {nn : ℕ} (a : At g p nn) where
+    pub place-no-header : Header g.plan nn → ⊥
+    place-no-header h = omega (arith, header-before g.plan t.planned nn h, t.planned.from (g.plan.number p) e.option, a.from)
 
-    joined : {a a' b b' c c' : List ℕ} → a ≡ a' → b ≡ b' → c ≡ c' → cond (ltb p nn) a (b ++ c) ≡ cond (ltb p nn) a' (b' ++ c')
-    joined x y z = rw (x, y, z)
+    pub empty-off : item_of (head g.heads nn) ≡ 0 → g.on nn ≡ false
+    empty-off z = not_so (g.on nn) (λ o. ⊎_elim place-no-header (λ m. omega (arith, (t.planned.entry nn m).above, sym z ∙ ap item_of (t.full nn m o))) (t.masked nn o))
+
+-- A walk depends on the heads of the option's other nodes only.
+pub walked-alike : (g h : Ground) → h.plan ≡ g.plan → (p : ℕ) → EntryOf g.plan p → ((y : ℕ) → lo g.plan p ≤ y → y < hi g.plan p → y ≢ p → head h.heads y ≡ head g.heads y)
+    → (nn : ℕ) → nn ≤ hi g.plan p → walked h p nn ≡ walked g p nn
+walked-alike g h same p e f nn k =
+    ap (λ (P : Plan). passed h.heads (lo P p) (hi P p) p nn) same
+    ∙ ⊎_elim onward round (less? p nn)
+  where
+    one : (y : ℕ) → lo g.plan p ≤ y → y < hi g.plan p → y ≢ p → full h.heads y ≡ full g.heads y
+    one y a b n = ap (λ (z : ℤ). ltb 0 (item_of z)) (f y a b n)
+
+    behind : (b : ℕ) → b ≤ hi g.plan p → keep (full h.heads) (span (p + 1) b) ≡ keep (full g.heads) (span (p + 1) b)
+    behind b l =
+        keep-cong (full h.heads) (full g.heads) (span (p + 1) b) (λ y m. let w = In-span (p + 1) b m in one y (omega (arith, w.0, e.from)) (omega (arith, w.1)) (λ q. omega (arith, w.0, q)))
+
+    onward : p < nn → passed h.heads (lo g.plan p) (hi g.plan p) p nn ≡ passed g.heads (lo g.plan p) (hi g.plan p) p nn
+    onward l = rw (lt-ltb p nn l) (behind nn k)
+
+    round : nn ≤ p → passed h.heads (lo g.plan p) (hi g.plan p) p nn ≡ passed g.heads (lo g.plan p) (hi g.plan p) p nn
+    round l =
+        let front =
+        keep-cong (full h.heads) (full g.heads) (span (lo g.plan p) nn) (λ y m. let w = In-span (lo g.plan p) nn m in one y w.0 (omega (arith, w.1)) (λ q. omega (arith, w.1, l, q))) in
+        rw (le-ltb p nn l, behind (hi g.plan p) (omega arith), front)
+
+pub others-alike : (g h : Ground) → h.plan ≡ g.plan → (p : ℕ) → EntryOf g.plan p → ((y : ℕ) → lo g.plan p ≤ y → y < hi g.plan p → y ≢ p → head h.heads y ≡ head g.heads y)
+    → others h p ≡ others g p
+unfolding others
+others-alike g h same p e f = walked-alike g h same p e f p (omega (arith, e.till))
+
+-- So nodes taken out leave it as it is.
+pub walked-taken : (g : Ground) (t : Tidy g) (xs : List ℕ) → Fresh g xs → (p : ℕ) → EntryOf g.plan p → (nn : ℕ) → nn ≤ hi g.plan p → walked (taken g xs) p nn ≡ walked g p nn
+walked-taken g t xs f p e =
+    walked-alike g (taken g xs) (taken-plan g xs) p e (λ y a b n. taken-entry-head g xs t f y (row-mate g.plan t.planned p y e a b))
 
 pub others-taken : (g : Ground) → Tidy g → (xs : List ℕ) → Fresh g xs → (p : ℕ) → EntryOf g.plan p → others (taken g xs) p ≡ others g p
 unfolding others
 others-taken g t xs f p e = walked-taken g t xs f p e p (omega (arith, e.till))
+
+-- The same, of the ground with its plan in sight.
+module _ (g : Ground) (xs : List ℕ) (t : Tidy g) (f : Fresh g xs) where
+  pub after-walked : (p : ℕ) → EntryOf g.plan p → (nn : ℕ) → nn ≤ hi g.plan p → walked (after g xs) p nn ≡ walked g p nn
+  after-walked p e nn k = ap (λ (G : Ground). walked G p nn) (sym (taken-after g xs)) ∙ walked-taken g t xs f p e nn k
+
+  pub after-others : (p : ℕ) → EntryOf g.plan p → others (after g xs) p ≡ others g p
+  after-others p e = ap (λ (G : Ground). others G p) (sym (taken-after g xs)) ∙ others-taken g t xs f p e
+
+  -- the same entries are full, and so the same is first of its option
+  pub after-full : (y : ℕ) → EntryOf g.plan y → full (after g xs).heads y ≡ full g.heads y
+  after-full y e = ap (λ (z : ℤ). ltb 0 (item_of z)) (taken-entry-head g xs t f y e)
+
+  pub after-first : (r : ℕ) → EntryOf g.plan r → first_live (after g xs) r ≡ first_live g r
+  after-first r e =
+      ap not (any-cong (full (after g xs).heads) (full g.heads) (span (lo g.plan r) r)
+      (λ y m. let w = In-span (lo g.plan r) r m in after-full y (row-mate g.plan t.planned r y e w.0 (omega (arith, w.1, e.till)))))

@@ -1,6 +1,6 @@
--- Reading after a store, equal or not, less or not, and a test that cannot pass. Assumes nothing.
+-- Reading after a store, equal or not, less or not, a test that cannot pass, and two tests that pass together. Assumes nothing.
 use Prim.Native.Nat.{ℕ, ◌<◌, ◌≤◌}
-use mathlib.Core.Path.{◌≡◌, refl}
+use mathlib.Core.Path.{◌≡◌, refl, sym}
 use mathlib.Core.Logic.{◌⊎◌, inl, inr, ⊎_elim, ◌≢◌}
 use mathlib.Core.Bool.{Bool, true, false, not-eq-not}
 use mathlib.Core.List.{List}
@@ -25,6 +25,11 @@ less? a b = go (ltb a b) refl
 
 pub not_so : (b : Bool) → (b ≡ true → ⊥) → b ≡ false
 not_so b n = (not-eq-not {a = b} {b = false}).0 n
+
+pub same-test : (a b : Bool) → (a ≡ true → b ≡ true) → (b ≡ true → a ≡ true) → a ≡ b
+same-test true b f g = sym (f refl)
+same-test false true f g = g refl
+same-test false false f g = refl
 
 -- at the place of the store, or elsewhere
 pub read_set : {A : Type 0} (l : List A) (i : ℕ) (v d : A) (y : ℕ) → i < length l → ((y ≡ i) × (get_or (set l i v) y d ≡ v)) ⊎ ((y ≢ i) × (get_or (set l i v) y d ≡ get_or l y d))

@@ -61,6 +61,10 @@ abbrev pub taken : Ground → List ℕ → Ground
 taken g [] = g
 taken g (x ∷ xs) = taken (cut_one g x) xs
 
+-- the same, with the plan that is still that of g written out
+abbrev pub after : Ground → List ℕ → Ground
+after g xs = record { plan = g.plan; on = (taken g xs).on; heads = (taken g xs).heads; up = (taken g xs).up; down = (taken g xs).down }
+
 -- each is in its column when its turn comes
 abbrev pub Fresh : Ground → List ℕ → Type 0
 Fresh g [] = Unit {0}

@@ -1,6 +1,7 @@
 -- The nodes as they are lent: three lists and three figures. What a definition says of lists, said of nodes; and that a function leaves the
 -- nodes the same ones, whatever it writes in them. Assumes nothing.
 use Rattle.std.specs.Prelude.{ℕ, zero, suc, ◌≡◌, List, length, ℤ, pos, negsuc, Option, Some, None}
+use Rattle.rules.specs.declared.number.Opt.{Opt}
 use Rattle.links.specs.declared.nodes.Nodes.{Nodes}
 
 -- what is said of heads, links up and links down, in that order, said of the nodes
@@ -34,6 +35,6 @@ column_in (pos i) = column i
 column_in (negsuc k) = None
 
 -- the option of a head: at a boundary behind an option its number, else there is none
-abbrev pub option_in : ℤ → Option ℕ
+abbrev pub option_in : ℤ → Option Opt
 option_in (pos i) = None
-option_in (negsuc k) = Some k
+option_in (negsuc k) = Some (record { 0 = k })

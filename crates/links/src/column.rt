@@ -37,28 +37,28 @@ impl<'a> Nodes<'a> {
         self.up[d as usize] = x as u32;
     }
 
-    // The column of item i is one shorter; its new length.
-    pub fn fewer(&mut self, i: usize) -> usize
-        requires { (i < length self.old.heads.now) × (item_of (head self.old.heads.now i) < node_bound) × (0 < item_of (head self.old.heads.now i)) }
+    // Column c is one shorter; its new length.
+    pub fn fewer(&mut self, c: usize) -> usize
+        requires { (c < length self.old.heads.now) × (item_of (head self.old.heads.now c) < node_bound) × (0 < item_of (head self.old.heads.now c)) }
         ensures nodes { SameNodes self.old self.new }
-        ensures heads { self.new.heads.now ≡ set self.old.heads.now i (pos (item_of (head self.old.heads.now i) - 1)) }
+        ensures heads { self.new.heads.now ≡ set self.old.heads.now c (pos (item_of (head self.old.heads.now c) - 1)) }
         ensures up { self.new.up.now ≡ self.old.up.now }
         ensures down { self.new.down.now ≡ self.old.down.now }
-        ensures length { result ≡ item_of (head self.old.heads.now i) - 1 }
+        ensures length { result ≡ item_of (head self.old.heads.now c) - 1 }
     {
-        let t = self.heads[i] - 1;
-        self.heads[i] = t;
+        let t = self.heads[c] - 1;
+        self.heads[c] = t;
         t as usize
     }
 
-    // The column of item i is one longer.
-    pub fn more(&mut self, i: usize)
-        requires { Growing self.old.heads.now i }
+    // Column c is one longer.
+    pub fn more(&mut self, c: usize)
+        requires { Growing self.old.heads.now c }
         ensures nodes { SameNodes self.old self.new }
-        ensures heads { self.new.heads.now ≡ set self.old.heads.now i (pos (item_of (head self.old.heads.now i) + 1)) }
+        ensures heads { self.new.heads.now ≡ set self.old.heads.now c (pos (item_of (head self.old.heads.now c) + 1)) }
         ensures up { self.new.up.now ≡ self.old.up.now }
         ensures down { self.new.down.now ≡ self.old.down.now }
     {
-        self.heads[i] += 1;
+        self.heads[c] += 1;
     }
 }

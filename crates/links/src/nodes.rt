@@ -7,6 +7,8 @@ ghost use Rattle.rules.specs.Bounds.{node_bound, word_bound};
 ghost use Rattle.links.specs.Head.{item_of, zero_head, below_zero, head};
 ghost use Rattle.links.specs.Column.{at};
 
+use rules::number::Opt;
+
 #[derive(Drop)]
 pub struct Nodes<'a> {
     // of a header the length of its column, of an entry its column, of a boundary its option: signed numbers, as C lends them
@@ -42,12 +44,16 @@ impl<'a> Nodes<'a> {
     }
 
     // The option before boundary x, if x is one behind an option.
-    pub fn option(&self, x: usize) -> Option<u32>
+    pub fn option(&self, x: usize) -> Option<Opt>
         requires { x < length self.now.heads.now }
         ensures { result ≡ option_in (head self.now.heads.now x) }
     {
         let h = self.heads[x];
-        if h < 0 { Some((-1 - h) as u32) } else { None }
+        if h < 0 {
+            Some(Opt::from((-1 - h) as u32))
+        } else {
+            None
+        }
     }
 
     // The head at node x is 0: a shortened entry, the first boundary, or the header of an empty column.
@@ -58,12 +64,12 @@ impl<'a> Nodes<'a> {
         self.heads[x] == 0
     }
 
-    // Column i holds no entry.
-    pub fn is_empty(&self, i: usize) -> bool
-        requires { i < length self.now.heads.now }
-        ensures { result ≡ eqb (item_of (head self.now.heads.now i)) 0 }
+    // Column c holds no entry.
+    pub fn is_empty(&self, c: usize) -> bool
+        requires { c < length self.now.heads.now }
+        ensures { result ≡ eqb (item_of (head self.now.heads.now c)) 0 }
     {
-        self.heads[i] <= 0
+        self.heads[c] <= 0
     }
 
     // The node above x in its column, or where a walk backwards leads on.
@@ -109,24 +115,24 @@ impl<'a> Nodes<'a> {
     }
 
     // Writes an entry's column, or a column's length, or 0.
-    pub fn set_head(&mut self, x: usize, i: usize)
-        requires { (i < node_bound) × (x < length self.old.heads.now) }
+    pub fn set_head(&mut self, x: usize, c: usize)
+        requires { (c < node_bound) × (x < length self.old.heads.now) }
         ensures nodes { SameNodes self.old self.new }
-        ensures heads { self.new.heads.now ≡ set self.old.heads.now x (pos i) }
+        ensures heads { self.new.heads.now ≡ set self.old.heads.now x (pos c) }
         ensures up { self.new.up.now ≡ self.old.up.now }
         ensures down { self.new.down.now ≡ self.old.down.now }
     {
-        self.heads[x] = i as i32;
+        self.heads[x] = c as i32;
     }
 
     // Writes the boundary after option k.
-    pub fn set_boundary(&mut self, x: usize, k: u32)
-        requires { (k < node_bound) × (x < length self.old.heads.now) }
+    pub fn set_boundary(&mut self, x: usize, k: Opt)
+        requires { (k.0 < node_bound) × (x < length self.old.heads.now) }
         ensures nodes { SameNodes self.old self.new }
-        ensures heads { self.new.heads.now ≡ set self.old.heads.now x (negsuc k) }
+        ensures heads { self.new.heads.now ≡ set self.old.heads.now x (negsuc k.0) }
         ensures up { self.new.up.now ≡ self.old.up.now }
         ensures down { self.new.down.now ≡ self.old.down.now }
     {
-        self.heads[x] = -1 - (k as i32);
+        self.heads[x] = -1 - (k.0 as i32);
     }
 }

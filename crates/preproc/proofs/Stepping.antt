@@ -14,13 +14,12 @@ use Rattle.rules.specs.Rounds.{item_step}
 use Rattle.rules.specs.Promises.{distinct}
 use Rattle.theorems.proofs.Steps.Redundancy.{chosen→}
 use Rattle.links.specs.Plan.{EntryOf, Header, Planned}
-use Rattle.links.specs.Ground.{Ground, Holds, Fresh, taken}
+use Rattle.links.specs.Ground.{Ground, Holds, Fresh, taken, after}
 use Rattle.links.specs.Shown.{Ready, shown}
 use Rattle.links.specs.Taking.{last_out, first_out, hides, leaves, off_column, mask_without}
 use Rattle.links.proofs.Plans.{entry-from, entry-no-header}
-use Rattle.links.proofs.Grounds.{on-taken, taken-head}
+use Rattle.links.proofs.Taken.{on-taken, taken-head, taken-after}
 use Rattle.showing.specs.Showing.{state_of, deletes, Condemns, condemned_at}
-use Rattle.showing.proofs.HiddenStates.{after, taken-after}
 use Rattle.showing.proofs.Condemned.{condemns, condemned→}
 use Rattle.showing.proofs.Deleted.{deletes-fresh, deleted-ready, condemned-apart}
 use Rattle.showing.proofs.ItemStep.{chosen_is, chosen_none, step-removes, removing-empties, step-deletes, deleting-empties}

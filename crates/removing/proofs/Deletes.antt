@@ -17,12 +17,12 @@ use Rattle.links.specs.Row.{walked, others}
 use Rattle.links.specs.Way.{way}
 use Rattle.links.specs.Taking.{first_out}
 use Rattle.links.proofs.Plans.{entry-till, header-before}
-use Rattle.links.proofs.Grounds.{taken-append, taken-tidy, taken-head, taken-up-off, taken-lengths, within-taken, fresh-of, fresh-front}
+use Rattle.links.proofs.Taken.{taken-append, taken-tidy, taken-head, taken-up-off, taken-lengths, within-taken, fresh-of, fresh-front}
 use Rattle.links.proofs.Rows.{At, place_in, walk_begins, walked_none, full-inside, full-entry, full-head, full_at, full-walked, full-way, over-at, over-walked, over-way, In-walked, others-In}
 use Rattle.links.proofs.Gathering.{others-distinct}
 use Rattle.removing.specs.Deleting.{Sitting, Deleting, Deleted}
 use Rattle.removing.proofs.Emptying.{first_some, first-none}
-use Rattle.removing.proofs.Fronts.{walked-front}
+use Rattle.links.proofs.Ahead.{ahead, walked-ahead}
 
 -- The place of a walk is no header, and a node with no item is in no column.
 module _ (g : Ground) (t : Tidy g) (p : ℕ) (e : EntryOf g.plan p) (nn : ℕ) (a : At g p nn) where
@@ -59,7 +59,7 @@ module _ {g : Ground} {r : ℕ} {heads₀ : List ℤ} {up₀ down₀ : List ℕ}
   others-fresh = fresh-of g (others g r) t d.others-in (others-distinct g r)
 
   walked-fresh : (q : ℕ) → At g r q → Fresh g (walked g r q)
-  walked-fresh q a = let f = walked-front g r e q a in fresh-front g (walked g r q) f.0 (subst (Fresh g) f.1 others-fresh)
+  walked-fresh q a = fresh-front g (walked g r q) (ahead g r q) (subst (Fresh g) (walked-ahead g t r e q a) others-fresh)
 
   module _ {np : ℕ} where
     pub begins : Midway g r np heads₀ up₀ down₀ (r + 1)
@@ -139,12 +139,13 @@ module _ {g : Ground} {r : ℕ} {heads₀ : List ℤ} {up₀ down₀ : List ℕ}
             }
 
             pub midway-stop : z ≢ 0 → Deleted g np (others g r) heads' up' down' z
-            midway-stop s =
-                let f = walked-front g r e (q + 1) (full_at g t r e q m.place some) in
-                record {
-                  answer = so_far ∙ sym (first_some g np (walked g r (q + 1)) f.0 (λ u. s (so_far ∙ u))) ∙ ap (first_out g np) (sym f.1);
-                  holds = λ u. absurd (s u);
-                }
+            midway-stop s = record {
+              answer =
+                  so_far
+                  ∙ sym (first_some g np (walked g r (q + 1)) (ahead g r (q + 1)) (λ u. s (so_far ∙ u)))
+                  ∙ ap (first_out g np) (sym (walked-ahead g t r e (q + 1) (full_at g t r e q m.place some)));
+              holds = λ u. absurd (s u);
+            }
 
       pub midway-round : q ≡ r → Deleted g np (others g r) heads up down 0
       unfolding others

@@ -19,15 +19,14 @@ use Rattle.links.specs.Shown.{Ready}
 use Rattle.links.specs.Taking.{first_out, gather_to, in_column, holds_column, leaving, off_column}
 use Rattle.links.proofs.Stores.{same?, less?}
 use Rattle.links.proofs.Plans.{entry-from, entry-till, entry-no-header, row-mate}
-use Rattle.links.proofs.Grounds.{taken-append, taken-plan, taken-tidy, taken-on, taken-head, taken-down-off, off-taken, fresh-of, fresh-rest}
-use Rattle.links.proofs.Rows.{In-others}
+use Rattle.links.proofs.Taken.{taken-append, taken-plan, taken-tidy, taken-on, taken-head, taken-down-off, off-taken, fresh-of, fresh-rest}
+use Rattle.links.proofs.Rows.{In-others, others-alike}
 use Rattle.links.proofs.Gathering.{others-distinct, gather-same, gather-one, gather_none}
 use Rattle.links.proofs.Descending.{column←}
 use Rattle.removing.specs.Deleting.{Deleting}
 use Rattle.removing.specs.Removing.{holds_other, shortened, Dropped}
 use Rattle.removing.proofs.Emptying.{first-none, first_by, first_out-by}
-use Rattle.removing.proofs.Alike.{same-mask, same-ground}
-use Rattle.removing.proofs.Fronts.{others-alike}
+use Rattle.links.proofs.Determined.{masks-same, ground-is}
 use Rattle.removing.proofs.Holding.{other-holds}
 use Rattle.removing.proofs.OffColumn.{off-own, tidy-off}
 use Rattle.removing.proofs.Shortening.{tidy-shorten}
@@ -163,13 +162,13 @@ module _ (g : Ground) (R : Ready g) (c p np : ℕ) where
 
               mask : (taken (midst g c p r heads up down) (others g r)).on ≡ (taken (off_column g c) (going g c p (r + 1))).on
               mask =
-                  same-mask (midst g c p r heads up down) (taken (off_column g c) (going g c p r)) refl (others g r)
+                  masks-same (midst g c p r heads up down) (taken (off_column g c) (going g c p r)) refl (others g r)
                   ∙ ap (λ (k : Ground). k.on) (sym (taken-append (off_column g c) (going g c p r) (others g r)))
                   ∙ ap (λ (l : List ℕ). (taken (off_column g c) l).on) (sym one_more)
 
               ground : taken (midst g c p r heads up down) (others g r) ≡ midst g c p (r + 1) heads' up' down'
               ground =
-                  same-ground (taken (midst g c p r heads up down) (others g r)) g.plan (taken (off_column g c) (going g c p (r + 1))).on heads' up' down'
+                  ground-is (taken (midst g c p r heads up down) (others g r)) g.plan (taken (off_column g c) (going g c p (r + 1))).on heads' up' down'
                   (taken-plan (midst g c p r heads up down) (others g r)) mask H.heads-are H.up-are H.down-are
 
         -- what `delete_or_shorten` leaves is what is to be left when r is passed

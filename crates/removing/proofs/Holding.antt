@@ -24,7 +24,7 @@ use Rattle.links.specs.Taking.{holds_column}
 use Rattle.links.proofs.Plans.{entry-till}
 use Rattle.links.proofs.Rows.{At, place_in, walk_begins, walked_none, full-item, full_at, full-walked, full-way, over-at, over-walked, over-way, In-others, others-In}
 use Rattle.removing.specs.Removing.{Walking, holds_other}
-use Rattle.removing.proofs.Fronts.{walked-front}
+use Rattle.links.proofs.Ahead.{ahead, walked-ahead}
 use Rattle.removing.proofs.Leaving.{holds→, holds←}
 
 -- The walk is at q, and has met no entry of column p.
@@ -91,12 +91,11 @@ module _ {g : Ground} {r : ℕ} {heads : List ℤ} {up : List ℕ} (w : Walking 
 
           pub looks-found : item_of (head heads q) ≡ p → true ≡ holds_other g r p
           looks-found d =
-              let f = walked-front g r e (q + 1) (full_at g t r e q m.place some) in
               let found : any (λ y. eqb (g.plan.col y) p) (walked g r (q + 1)) ≡ true = so_far ∙ rw (eq-eqb (g.plan.col q) p (sym item-is ∙ d)) in
               sym
-              (ap (any (λ y. eqb (g.plan.col y) p)) f.1
-              ∙ any_append (λ y. eqb (g.plan.col y) p) (walked g r (q + 1)) f.0
-              ∙ ap (λ (b : Bool). b || any (λ y. eqb (g.plan.col y) p) f.0) found)
+              (ap (any (λ y. eqb (g.plan.col y) p)) (walked-ahead g t r e (q + 1) (full_at g t r e q m.place some))
+              ∙ any_append (λ y. eqb (g.plan.col y) p) (walked g r (q + 1)) (ahead g r (q + 1))
+              ∙ ap (λ (b : Bool). b || any (λ y. eqb (g.plan.col y) p) (ahead g r (q + 1))) found)
 
       pub looks-round : q ≡ r → false ≡ holds_other g r p
       unfolding others

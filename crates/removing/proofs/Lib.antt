@@ -1,5 +1,4 @@
 pub mod Emptying
-pub mod Fronts
 pub mod TakingOut
 pub mod Deletes
 pub mod WholeOption
@@ -7,7 +6,6 @@ pub mod Dropping
 pub mod OffColumn
 pub mod Shortening
 pub mod EmptyColumn
-pub mod Alike
 pub mod Leaving
 pub mod Holding
 pub mod Staying

@@ -20,7 +20,7 @@ use Rattle.links.specs.Shown.{Ready}
 use Rattle.links.specs.Taking.{first_out, leaving, holds_column, off_column, leaves, mask_without}
 use Rattle.links.proofs.Stores.{same?, less?}
 use Rattle.links.proofs.Plans.{entry-from, entry-till, entry-no-header, header-before}
-use Rattle.links.proofs.Grounds.{on-taken}
+use Rattle.links.proofs.Taken.{on-taken}
 use Rattle.links.proofs.Descending.{Stand, on-entry, reach, reach-past, reach-at, left, stand-header, stand-in, stand-next, step-gap, step-far, step_less, header-gap}
 use Rattle.removing.specs.Deleting.{Deleting}
 use Rattle.removing.specs.Removing.{Dropped, Removing, removed, Removed}

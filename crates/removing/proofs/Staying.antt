@@ -14,7 +14,7 @@ use Rattle.links.specs.Shown.{Ready}
 use Rattle.links.specs.Taking.{gather_to, holds_column, leaving, off_column, mask_without}
 use Rattle.links.proofs.Stores.{less?}
 use Rattle.links.proofs.Plans.{entry-from, entry-till}
-use Rattle.links.proofs.Grounds.{taken-on, on-taken}
+use Rattle.links.proofs.Taken.{taken-on, on-taken}
 use Rattle.links.proofs.Rows.{others-In}
 use Rattle.links.proofs.Gathering.{gather-In}
 use Rattle.links.proofs.Descending.{on-entry}

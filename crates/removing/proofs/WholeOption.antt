@@ -6,7 +6,7 @@ use mathlib.Core.List.{List, [], ◌∷◌, ◌++◌}
 use lib.IntN.{ℤ}
 use Rattle.links.specs.Ground.{Ground, Within, taken, Fresh, Holds}
 use Rattle.links.specs.Row.{others}
-use Rattle.links.proofs.Grounds.{taken-append, taken-tidy, within-taken}
+use Rattle.links.proofs.Taken.{taken-append, taken-tidy, within-taken}
 use Rattle.links.proofs.Rows.{In-others}
 use Rattle.removing.specs.Deleting.{Sitting, Deleting, Deleted}
 use Rattle.removing.proofs.Emptying.{first_some, first-none}

@@ -1,4 +1,4 @@
--- The call over byte lists comes to what the call over lists comes to, read as numbers: where no list is ragged, the number, the place and the
+-- The call over byte lists comes to what the call over lists comes to, read as numbers: where no list is ragged, the refusal and the
 -- numbers of the outcome list are those of the compact renumbering of the numbers. Assumes nothing.
 use Prim.Native.Nat.{ℕ, ◌<◌}
 use native.Mathlib.Omega.{arith}
@@ -21,7 +21,7 @@ use Rattle.renumbering.proofs.Calls.{as-renumbered}
 
 -- an outcome with its list read as numbers
 abbrev pub in_numbers : Renumbered → Renumbered
-in_numbers o = record { number = o.number; place = o.place; out = numbers_of o.out }
+in_numbers o = record { refusal = o.refusal; out = numbers_of o.out }
 
 -- the places fit, since none is above its item
 places-fit : (kept : List ℕ) (primaries : ℕ) (items : List ℕ) → Renumberable kept primaries → AllKept kept items → Below 4294967296 items
@@ -54,4 +54,4 @@ module _ (kept : List ℕ) (primaries : ℕ) (items out : List ℕ) where
       go (some r) f = refl
       go none f =
           let a = accepted (numbers_of kept) primaries (numbers_of items) (numbers_of out) f in
-          ap (λ (l : List ℕ). record { number = 0; place = 0; out = l }) (numbers-written new out (places-fit (numbers_of kept) primaries (numbers_of items) a.0 a.1 (numbers-small items b)))
+          ap (λ (l : List ℕ). record { refusal = none; out = l }) (numbers-written new out (places-fit (numbers_of kept) primaries (numbers_of items) a.0 a.1 (numbers-small items b)))

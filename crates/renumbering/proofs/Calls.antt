@@ -1,6 +1,5 @@
 -- What a call comes to, from the refusal it found: that refusal with nothing written, or done with the front written. Assumes nothing.
-use Prim.Native.Nat.{ℕ, ◌<◌}
-use native.Mathlib.Omega.{arith}
+use Prim.Native.Nat.{ℕ}
 use mathlib.Core.Path.{◌≡◌, refl, sym, ap, ◌∙◌}
 use mathlib.Core.Bool.{true, false, ◌||◌, or-false, or_assoc}
 use mathlib.Core.List.{List, [], ◌∷◌, map}
@@ -15,18 +14,10 @@ use Rattle.rules.specs.Renumber.{renumber_refusal, renumbered_unless}
 use Rattle.words.specs.Bytes.{four, numbers_of, bytes_of, ragged_length, ragged}
 use Rattle.words.proofs.Storing.{each_number, each_bytes}
 use Rattle.renumbering.specs.declared.answer.Unnumbered.{Unnumbered}
-use Rattle.renumbering.specs.declared.answer.Unnumbered.TheVariants.{Ragged, BadKept, ShortOutcome, NotKept}
-use Rattle.renumbering.specs.Outcome.{Renumbering, refused, refusal, refusal_number, outcome}
+use Rattle.renumbering.specs.declared.answer.Unnumbered.TheVariants.{Ragged}
+use Rattle.renumbering.specs.Outcome.{Renumbering, refused, outcome}
 use Rattle.renumbering.specs.Bytes.{bytes_refusal, written_unless, compact_bytes_outcome}
 use Rattle.renumbering.proofs.Refusing.{ragged-refused, whole-refused}
-
--- every number of the table has one byte
-pub number-byte : (r : Renumbering) → refusal_number (refusal r) < 256
-number-byte (Ok done) = omega arith
-number-byte (Err Ragged) = omega arith
-number-byte (Err BadKept) = omega arith
-number-byte (Err ShortOutcome) = omega arith
-number-byte (Err (NotKept place)) = omega arith
 
 -- The calls over lists: the rules' word for it.
 pub as-renumbered : (x : Option Refusal) (f : ℕ → ℕ) (items out : List ℕ) → written_unless x (map f items) out ≡ renumbered_unless x f items out

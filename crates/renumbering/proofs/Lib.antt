@@ -7,5 +7,5 @@ pub mod Refusing
 pub mod Writing
 pub mod Calls
 pub mod AsNumbers
-pub mod Packing
+pub mod Places
 pub mod OneOutcome

@@ -14,8 +14,8 @@ bytes_refusal kept primaries items out =
 
 -- a refusal writes nothing; otherwise the front of the list is written over
 abbrev pub written_unless : Option Refusal → List ℕ → List ℕ → Renumbered
-written_unless (some r) new out = record { number = r.number; place = r.place; out = out }
-written_unless none new out = record { number = 0; place = 0; out = written new out }
+written_unless (some r) new out = record { refusal = some r; out = out }
+written_unless none new out = record { refusal = none; out = written new out }
 
 unfoldable pub compact_bytes_outcome : List ℕ → ℕ → List ℕ → List ℕ → Renumbered
 compact_bytes_outcome kept primaries items out =

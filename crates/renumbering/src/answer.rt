@@ -1,7 +1,8 @@
-// Why a renumbering call gives no numbers, and what a call answers, as plain numbers.
+// Why a renumbering call gives no numbers.
 ghost use Rattle.std.specs.Prelude.{◌≡◌};
-ghost use Rattle.renumbering.specs.Outcome.{refused, refusal, refusal_number, refusal_place, packed};
+ghost use Rattle.renumbering.specs.Outcome.{refused};
 
+// A refusal, as an enum and no record of a number and a place: a place is a usize here, since a list of items may be longer than a u32 counts.
 #[derive(Clone, Copy, Debug, PartialEq, Eq)]
 pub enum Unnumbered {
     // 14: a byte list's length isn't a multiple of four; only where lists are lists of bytes
@@ -36,25 +37,4 @@ impl Unnumbered {
             _ => 0,
         }
     }
-}
-
-// The number of an answer: 0 if done, the front of the outcome list being filled. (Document 01 packs an answer that is done as number 0, place 0.)
-pub fn number(answer: Result<(), Unnumbered>) -> u32
-    ensures { result ≡ refusal_number (refusal answer) }
-{
-    answer.err().map_or(0, Unnumbered::number)
-}
-
-// The place that goes with it, 0 if done, as document 01 packs it.
-pub fn place(answer: Result<(), Unnumbered>) -> usize
-    ensures { result ≡ refusal_place (refusal answer) }
-{
-    answer.err().map_or(0, Unnumbered::place)
-}
-
-// Number and place as one 64-bit number.
-pub fn packed(answer: Result<(), Unnumbered>) -> u64
-    ensures { result ≡ packed (refusal_number (refusal answer)) (refusal_place (refusal answer)) }
-{
-    u64::from(number(answer)) + 256 * (place(answer) as u64 % 72057594037927936)
 }

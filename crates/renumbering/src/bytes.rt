@@ -6,6 +6,7 @@ ghost use Rattle.renumbering.specs.Bytes.{compact_bytes_outcome};
 use crate::answer::Unnumbered;
 use crate::checks::check;
 use crate::write::write;
+use rules::number::Item;
 use words::{any_ragged, count, fours};
 
 // Compact numbers: each item's place in the kept list.
@@ -22,6 +23,6 @@ pub fn compact_bytes(
     }
     let (kept, items) = (fours(kept), fours(items));
     check(kept, primaries, items, count(out))?;
-    write(kept, items, &mut *out, |place, _| place);
+    write(kept, items, &mut *out, |place, _| Item::from(place));
     Ok(())
 }

@@ -7,6 +7,7 @@ ghost use Rattle.renumbering.specs.Parts.{Renumberable};
 use crate::answer::Unnumbered;
 use crate::checks::check;
 use crate::write::write;
+use rules::number::Item;
 
 // By how much the crate's numbers of secondaries are less (`sd` in p.rs `get_options`): first kept secondary minus last kept primary minus 1.
 fn sd(kept: &[u32], primaries: usize) -> u32
@@ -30,7 +31,7 @@ pub fn compact(
     ensures { outcome result out.new ≡ compact_outcome kept.now primaries items.now out.old }
 {
     check(kept, primaries, items, out.len())?;
-    write(kept, items, &mut *out, |place, _| place);
+    write(kept, items, &mut *out, |place, _| Item::from(place));
     Ok(())
 }
 
@@ -46,7 +47,11 @@ pub fn crate_numbers(
     check(kept, primaries, items, out.len())?;
     let sd = sd(kept, primaries as usize);
     write(kept, items, &mut *out, |place, item| {
-        if place < primaries { item } else { item - sd }
+        if place < primaries {
+            item
+        } else {
+            Item::from(item.0 - sd)
+        }
     });
     Ok(())
 }

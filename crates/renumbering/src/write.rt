@@ -4,11 +4,12 @@ ghost use Rattle.rules.specs.Lists.{rising, each, written};
 ghost use Rattle.renumbering.specs.Parts.{AllKept, AskedOfEach, Numbers};
 
 use crate::kept::find;
+use rules::number::Item;
 use words::cell::Cell;
 use words::numeral::Numeral;
 
 // Writes the items' numbers to the front of `out`. What number a kept item has, `number` says, of its place in the kept list and the item.
-pub fn write<N: Numeral, C: Cell, F: Fn(u32, u32) -> u32>(
+pub fn write<N: Numeral, C: Cell, F: Fn(u32, Item) -> Item>(
     kept: &[N],
     items: &[N],
     out: &mut [C],
@@ -22,8 +23,8 @@ pub fn write<N: Numeral, C: Cell, F: Fn(u32, u32) -> u32>(
 {
     // by place, as `Cell::put` writes: of the elements nothing is known once an `iter_mut` is over
     for (k, item) in items.iter().enumerate() {
-        let i = item.number();
+        let i = Item::from(item.number());
         let place = find(kept, i).unwrap();
-        C::put(&mut *out, k, number(place as u32, i));
+        C::put(&mut *out, k, number(place as u32, i).0);
     }
 }

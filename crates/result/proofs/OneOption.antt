@@ -10,6 +10,7 @@ use lib.ListN.{length, set, length-append, length-map}
 use lib.IntN.{ℤ, pos}
 use Rattle.std.proofs.Common.{Some, None}
 use Rattle.rules.specs.Bounds.{node_bound, word_bound}
+use Rattle.rules.specs.declared.number.Opt.{Opt}
 use Rattle.rules.specs.Lists.{keep}
 use Rattle.rules.specs.Problem.{Entry}
 use Rattle.rules.specs.State.{items_of}
@@ -164,7 +165,7 @@ module _ {g : Ground} {old lists : FourLists} {xs : List Numbered} {heads : List
             longer = ap (map (entry_at g.plan)) (keep-end (full g.heads) r q b.from some) ∙ map-append (entry_at g.plan) (keep (full g.heads) (span r q)) (q ∷ [])
 
     -- at the boundary
-    module _ (k : ℕ) (s : Some k ≡ option_in (head heads q)) where
+    module _ (k : Opt) (s : Some k ≡ option_in (head heads q)) where
       here : q ≡ hi g.plan r
       here = reading-end (option_some (head heads q) k s).0
 
@@ -195,19 +196,19 @@ module _ {g : Ground} {old lists : FourLists} {xs : List Numbered} {heads : List
           let l = filled-length old.numbers (numbers_of xs) lists.numbers option d.written.numbers (omega (arith, d.room.numbers, a, n)) in
           omega (arith, d.room.numbers, d.written.numbers.at-is, a, n, l)
 
-      pub reading-done : Written old (out (set lists.ends option e) (set lists.numbers option k) items colours) (xs ++ (option_from g r ∷ [])) (option + 1) e
+      pub reading-done : Written old (out (set lists.ends option e) (set lists.numbers option k.0) items colours) (xs ++ (option_from g r ∷ [])) (option + 1) e
       unfolding option_from all
       reading-done = record {
         ends =
             filled-same old.ends (set lists.ends option e) (option + 1) (ap (λ (k : ℕ). ends_from 0 xs ++ (k ∷ [])) count-is ∙ sym (ends-one xs (option_from g r)))
             (filled_more old.ends (ends_from 0 xs) lists.ends option d.written.ends e reading-ends);
         numbers =
-            filled-same old.numbers (set lists.numbers option k) (option + 1)
+            filled-same old.numbers (set lists.numbers option k.0) (option + 1)
             (ap (λ (k : ℕ). numbers_of xs ++ (k ∷ [])) number_is ∙ sym (numbers-one xs (option_from g r)))
-            (filled_more old.numbers (numbers_of xs) lists.numbers option d.written.numbers k reading-numbers);
+            (filled_more old.numbers (numbers_of xs) lists.numbers option d.written.numbers k.0 reading-numbers);
         items = filled-same old.items items e (ap (λ (k : ℕ). items_in xs ++ items_of (entries_to g r k)) here ∙ sym (items-one xs (option_from g r))) b.items-in;
         colours = filled-same old.colours colours e (ap (λ (k : ℕ). colours_in xs ++ colours_of (entries_to g r k)) here ∙ sym (colours-one xs (option_from g r))) b.colours-in;
       }
         where
-          number_is : k ≡ g.plan.number r
+          number_is : k.0 ≡ g.plan.number r
           number_is = sym (option_some (head heads q) k s).1 ∙ ap (λ (l : List ℤ). option_of (head l q)) d.heads-are ∙ ap (λ (k : ℕ). option_of (head g.heads k)) here ∙ ap option_of edge.number

@@ -13,7 +13,9 @@ use Rattle.rules.specs.Samples.{SamplesHold}
 use Rattle.rules.specs.Cases.{CasesHold}
 
 pub samples-hold : SamplesHold
-unfolding problem_of refusal_of check16 short_room short_results check_entry around redundant_for highest chosen shortened leaving_with remove_item rival blocks blocked condemned leaving_blocked delete_blocked start uncovered item_step item_steps round rounds reduce kept_items kept_options results_of sd crate_item renumber_refusal compact_outcome crate_outcome cleared fronts said_of outcome_at
+unfolding problem_of refusal_of check16 short_room short_results check_entry around redundant_for highest chosen shortened leaving_with remove_item rival blocks
+    blocked condemned leaving_blocked delete_blocked start uncovered item_step item_steps round rounds reduce kept_items kept_options results_of sd crate_item
+    renumber_refusal compact_outcome crate_outcome cleared fronts said_of outcome_at
 samples-hold = record { outcomes = refl; compacts = refl; crates = refl }
 
 pub cases-hold : CasesHold

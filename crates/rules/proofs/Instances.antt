@@ -18,7 +18,7 @@ use Rattle.rules.specs.Outcome.{refused_or}
 use Rattle.rules.specs.Cover.{Cover}
 
 -- A refusal writes nothing anywhere.
-pub refused-untouched : (h : Handed) (r : Refusal) (x : Finding) → refused_or h (some r) x ≡ record { said = said_refused r.number r.place; room = h.room; results = h.results }
+pub refused-untouched : (h : Handed) (r : Refusal) (x : Finding) → refused_or h (some r) x ≡ record { said = said_refused r; room = h.room; results = h.results }
 refused-untouched h r x = refl
 
 -- Of the kept items 4 and 7, 7 is item 1 of the compact problem.
@@ -47,6 +47,7 @@ uncoloured = record {
 pub not-agreed : Cover uncoloured (0 ∷ 1 ∷ []) → ⊥
 unfolding Cover
 not-agreed C =
-    let a = C.agreed 0 1 (here refl) (next (here refl)) zero-not-one (record { item = 2; colour = 0 }) (record { item = 2; colour = 0 }) (next (here refl)) (next (here refl)) refl (omega arith) in
+    let a = C.agreed 0 1 (here refl) (next (here refl)) zero-not-one (record { item = 2; colour = 0 }) (record { item = 2; colour = 0 }) (next (here refl))
+    (next (here refl)) refl (omega arith) in
     let b = a.1 in
     absurd (omega arith)

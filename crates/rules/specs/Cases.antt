@@ -170,7 +170,7 @@ cases =
     ∷ []
 
 -- A renumbering: the kept list, its count of primaries, the items, how many places the list for the outcome has, all of them 9; what must come
--- back: number, place, and that list, compact and in the crate's numbers.
+-- back: the refusal, and that list, compact and in the crate's numbers.
 pub record Renumbering : Type 0 where
   pub kept : List ℕ
   pub primaries : ℕ
@@ -179,40 +179,40 @@ pub record Renumbering : Type 0 where
   pub compact : Renumbered
   pub crate : Renumbered
 
-abbrev pub renumbering : List ℕ → ℕ → List ℕ → ℕ → ℕ → ℕ → List ℕ → List ℕ → Renumbering
-renumbering kept primaries items size number place compact crate = record {
+abbrev pub renumbering : List ℕ → ℕ → List ℕ → ℕ → Option Refusal → List ℕ → List ℕ → Renumbering
+renumbering kept primaries items size refusal compact crate = record {
   kept = kept;
   primaries = primaries;
   items = items;
   out = replicate size 9;
-  compact = record { number = number; place = place; out = compact };
-  crate = record { number = number; place = place; out = crate };
+  compact = record { refusal = refusal; out = compact };
+  crate = record { refusal = refusal; out = crate };
 }
 
 abbrev pub renumberings : List Renumbering
 renumberings =
     -- 24: not strictly rising, a count of 0 or above the length; an empty kept list
-    renumbering (1 ∷ 1 ∷ []) 1 (1 ∷ []) 1 24 0 (9 ∷ []) (9 ∷ [])
-    ∷ renumbering (2 ∷ 1 ∷ []) 1 [] 0 24 0 [] []
-    ∷ renumbering (0 ∷ 1 ∷ []) 0 [] 0 24 0 [] []
-    ∷ renumbering (0 ∷ 1 ∷ []) 3 [] 0 24 0 [] []
-    ∷ renumbering [] 0 [] 0 24 0 [] []
-    ∷ renumbering [] 1 [] 0 24 0 [] []
+    renumbering (1 ∷ 1 ∷ []) 1 (1 ∷ []) 1 (refused 24 0) (9 ∷ []) (9 ∷ [])
+    ∷ renumbering (2 ∷ 1 ∷ []) 1 [] 0 (refused 24 0) [] []
+    ∷ renumbering (0 ∷ 1 ∷ []) 0 [] 0 (refused 24 0) [] []
+    ∷ renumbering (0 ∷ 1 ∷ []) 3 [] 0 (refused 24 0) [] []
+    ∷ renumbering [] 0 [] 0 (refused 24 0) [] []
+    ∷ renumbering [] 1 [] 0 (refused 24 0) [] []
     -- 24 before 18, and 18 before 25
-    ∷ renumbering (1 ∷ 1 ∷ []) 1 (7 ∷ []) 0 24 0 [] []
-    ∷ renumbering (0 ∷ 1 ∷ []) 1 (7 ∷ []) 0 18 0 [] []
+    ∷ renumbering (1 ∷ 1 ∷ []) 1 (7 ∷ []) 0 (refused 24 0) [] []
+    ∷ renumbering (0 ∷ 1 ∷ []) 1 (7 ∷ []) 0 (refused 18 0) [] []
     -- 18: one place short, and enough
-    ∷ renumbering (0 ∷ 1 ∷ []) 1 (1 ∷ 0 ∷ []) 1 18 0 (9 ∷ []) (9 ∷ [])
-    ∷ renumbering (0 ∷ 1 ∷ []) 1 (1 ∷ 0 ∷ []) 2 0 0 (1 ∷ 0 ∷ []) (1 ∷ 0 ∷ [])
+    ∷ renumbering (0 ∷ 1 ∷ []) 1 (1 ∷ 0 ∷ []) 1 (refused 18 0) (9 ∷ []) (9 ∷ [])
+    ∷ renumbering (0 ∷ 1 ∷ []) 1 (1 ∷ 0 ∷ []) 2 none (1 ∷ 0 ∷ []) (1 ∷ 0 ∷ [])
     -- 25: the first item that is not kept
-    ∷ renumbering (0 ∷ 2 ∷ []) 1 (0 ∷ 1 ∷ 3 ∷ []) 3 25 1 (9 ∷ 9 ∷ 9 ∷ []) (9 ∷ 9 ∷ 9 ∷ [])
-    ∷ renumbering (0 ∷ 2 ∷ []) 1 (2 ∷ 0 ∷ 3 ∷ []) 3 25 2 (9 ∷ 9 ∷ 9 ∷ []) (9 ∷ 9 ∷ 9 ∷ [])
-    -- the front is filled and nothing behind it; no items are answered 0
-    ∷ renumbering (1 ∷ 4 ∷ 6 ∷ []) 1 (4 ∷ 1 ∷ 6 ∷ 4 ∷ []) 5 0 0 (1 ∷ 0 ∷ 2 ∷ 1 ∷ 9 ∷ []) (2 ∷ 1 ∷ 4 ∷ 2 ∷ 9 ∷ [])
-    ∷ renumbering (3 ∷ []) 1 [] 1 0 0 (9 ∷ []) (9 ∷ [])
+    ∷ renumbering (0 ∷ 2 ∷ []) 1 (0 ∷ 1 ∷ 3 ∷ []) 3 (refused 25 1) (9 ∷ 9 ∷ 9 ∷ []) (9 ∷ 9 ∷ 9 ∷ [])
+    ∷ renumbering (0 ∷ 2 ∷ []) 1 (2 ∷ 0 ∷ 3 ∷ []) 3 (refused 25 2) (9 ∷ 9 ∷ 9 ∷ []) (9 ∷ 9 ∷ 9 ∷ [])
+    -- the front is filled and nothing behind it; an empty list of items is taken
+    ∷ renumbering (1 ∷ 4 ∷ 6 ∷ []) 1 (4 ∷ 1 ∷ 6 ∷ 4 ∷ []) 5 none (1 ∷ 0 ∷ 2 ∷ 1 ∷ 9 ∷ []) (2 ∷ 1 ∷ 4 ∷ 2 ∷ 9 ∷ [])
+    ∷ renumbering (3 ∷ []) 1 [] 1 none (9 ∷ []) (9 ∷ [])
     -- the primaries are the first of the kept list
-    ∷ renumbering (0 ∷ 2 ∷ []) 1 (2 ∷ []) 1 0 0 (1 ∷ []) (1 ∷ [])
-    ∷ renumbering (0 ∷ 2 ∷ []) 2 (2 ∷ []) 1 0 0 (1 ∷ []) (2 ∷ [])
+    ∷ renumbering (0 ∷ 2 ∷ []) 1 (2 ∷ []) 1 none (1 ∷ []) (1 ∷ [])
+    ∷ renumbering (0 ∷ 2 ∷ []) 2 (2 ∷ []) 1 none (1 ∷ []) (2 ∷ [])
     ∷ []
 
 -- Every case is refused, or taken, as it must be.

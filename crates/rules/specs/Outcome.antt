@@ -50,7 +50,7 @@ concluded h (infeasible item cause round) = record { said = said_infeasible item
 
 -- A refusal writes nothing anywhere.
 abbrev pub refused_or : Handed → Option Refusal → Finding → Outcome
-refused_or h (some r) finding = record { said = said_refused r.number r.place; room = h.room; results = h.results }
+refused_or h (some r) finding = record { said = said_refused r; room = h.room; results = h.results }
 refused_or h none finding = concluded h finding
 
 -- at any figures, for what may be ragged

@@ -5,7 +5,8 @@ use Rattle.rules.specs.declared.answer.Answer.{Answer}
 use Rattle.rules.specs.declared.answer.Answer.TheVariants.{Reduced, Infeasible, Refused}
 use Rattle.rules.specs.declared.answer.Cause.{Cause}
 use Rattle.rules.specs.declared.answer.Cause.TheVariants.{Start, Redundant, Blocked}
-use Rattle.rules.specs.Refusals.{number_of}
+use Rattle.rules.specs.Checks.{Refusal}
+use Rattle.rules.specs.Refusals.{as_paper}
 
 pub record Said : Type 0 where
   pub number : ℕ
@@ -21,8 +22,8 @@ abbrev pub said_infeasible : ℕ → ℕ → ℕ → Said
 said_infeasible item cause round = record { number = 1; values = item ∷ cause ∷ round ∷ [] }
 
 -- 10 to 22: the place
-abbrev pub said_refused : ℕ → ℕ → Said
-said_refused number place = record { number = number; values = place ∷ [] }
+abbrev pub said_refused : Refusal → Said
+said_refused r = record { number = r.number; values = r.place ∷ [] }
 
 -- the number of each cause
 abbrev pub cause_number : Cause → ℕ
@@ -34,4 +35,4 @@ cause_number Blocked = 3
 abbrev pub paper : Answer → Said
 paper (Reduced primaries secondaries options entries rounds settled) = said_reduced primaries secondaries options entries rounds settled
 paper (Infeasible item cause round) = said_infeasible item.0 (cause_number cause) round
-paper (Refused r) = said_refused (number_of r.check) r.place
+paper (Refused r) = said_refused (as_paper r)

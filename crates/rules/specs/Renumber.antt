@@ -28,15 +28,14 @@ renumber_refusal kept primaries items out =
     ∷ refuse_at 25 (not_kept kept 0 items)
     ∷ [])
 
--- What a renumbering call comes to: 0 or the refusal's number, the place, and the list for the outcome afterwards.
+-- What a renumbering call comes to: the refusal, if there is one, and the list for the outcome afterwards.
 pub record Renumbered : Type 0 where
-  pub number : ℕ
-  pub place : ℕ
+  pub refusal : Option Refusal
   pub out : List ℕ
 
 abbrev pub renumbered_unless : Option Refusal → (ℕ → ℕ) → List ℕ → List ℕ → Renumbered
-renumbered_unless (some r) f items out = record { number = r.number; place = r.place; out = out }
-renumbered_unless none f items out = record { number = 0; place = 0; out = written (map f items) out }
+renumbered_unless (some r) f items out = record { refusal = some r; out = out }
+renumbered_unless none f items out = record { refusal = none; out = written (map f items) out }
 
 unfoldable pub compact_outcome : List ℕ → ℕ → List ℕ → List ℕ → Renumbered
 compact_outcome kept primaries items out =

@@ -3,15 +3,16 @@ use crate::compare::Found;
 use crate::lists::PATTERN;
 use lines::parts::part;
 use lines::{numbers, say};
-use renumbering::answer::{Unnumbered, number, place};
+use renumbering::answer::Unnumbered;
 use renumbering::lists::{compact, crate_numbers};
 
 // What a call answered, and its list, whose front n items fill where they are renumbered.
 fn outcome(name: &str, answer: Result<(), Unnumbered>, n: usize, out: &[u32]) -> bool {
     let filled = if answer.is_ok() { n } else { 0 };
     let found = Found::result(", items", out, filled);
-    let number = number(answer);
-    let place = place(answer);
+    // document 01 answers 0, place 0 where the numbers are given
+    let number = answer.err().map_or(0, Unnumbered::number);
+    let place = answer.err().map_or(0, Unnumbered::place);
     say::text(format_args!("{name} {number} place {place}{found}"));
     found.is_right()
 }

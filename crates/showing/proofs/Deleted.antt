@@ -20,16 +20,16 @@ use Rattle.theorems.proofs.Words.Distinct.{distinct→, distinct_append}
 use Rattle.theorems.proofs.Words.Rising.{some-rise, rising-distinct}
 use Rattle.links.specs.Head.{head}
 use Rattle.links.specs.Plan.{EntryOf, Planned}
-use Rattle.links.specs.Ground.{Ground, Within, taken, Fresh}
+use Rattle.links.specs.Ground.{Ground, Within, taken, Fresh, after}
 use Rattle.links.specs.Row.{others}
 use Rattle.links.specs.Shown.{Ready, Whole}
 use Rattle.links.proofs.Plans.{entry-no-header}
-use Rattle.links.proofs.Grounds.{fresh-of, taken-tidy, taken-head, taken-on, on-taken}
+use Rattle.links.proofs.Taken.{fresh-of, taken-tidy, taken-head, taken-on, on-taken, taken-after}
 use Rattle.links.proofs.Rows.{In-others}
 use Rattle.links.proofs.Gathering.{others-distinct}
 use Rattle.showing.specs.Showing.{state_of, deletes, Condemns}
 use Rattle.showing.proofs.Lists.{distinct-reverse}
-use Rattle.showing.proofs.HiddenStates.{after, taken-after, others-within}
+use Rattle.showing.proofs.HiddenStates.{others-within}
 use Rattle.showing.proofs.Deleting.{In-deletes, deletes-In}
 
 module _ (g : Ground) (R : Ready g) where

@@ -1,40 +1,26 @@
 -- The ground while item c is hidden: which nodes are in their columns then. Outside column c they are those of the options that do not hold c
 -- uncoloured. Assumes nothing.
 use Prim.Native.Nat.{ℕ, ◌+◌}
-use native.Mathlib.Omega.{arith}
-use mathlib.Core.Path.{◌≡◌, ◌∙◌, ap, sym, subst}
+use mathlib.Core.Path.{◌≡◌, ◌∙◌, ap, sym}
 use mathlib.Core.Logic.{◌≢◌}
 use mathlib.Core.Bool.{true, not}
-use mathlib.Core.List.{List, Memᴰ as In}
-use lib.Dec.{T, ltb, eqb, eqb→eq, T_not, not_T}
-use lib.IntN.{ℤ}
+use mathlib.Core.List.{Memᴰ as In}
+use lib.Dec.{T, eqb, eqb→eq, T_not, not_T}
 use Rattle.rules.specs.State.{option_at, holds_uncoloured}
 use Rattle.theorems.proofs.Words.Tests.{T_true, true-T, T_and, and_T, eq→eqb}
-use Rattle.links.specs.Head.{item_of}
-use Rattle.links.specs.Plan.{Plan, EntryOf, Planned}
-use Rattle.links.specs.Ground.{Ground, Tidy, Within, taken, Fresh}
-use Rattle.links.specs.Row.{full, walked, others}
+use Rattle.links.specs.Plan.{EntryOf, Planned}
+use Rattle.links.specs.Ground.{Ground, Tidy, Within, taken, after, Fresh}
+use Rattle.links.specs.Row.{full, others}
 use Rattle.links.specs.Shown.{Ready}
 use Rattle.links.specs.Taking.{in_column, hidden, hides}
-use Rattle.links.proofs.Plans.{entry-no-header, entry-till}
-use Rattle.links.proofs.Grounds.{taken-plan, taken-tidy, taken-head, taken-on, on-taken}
-use Rattle.links.proofs.Rows.{In-others, others-In, walked-taken}
+use Rattle.links.proofs.Plans.{entry-till}
+use Rattle.links.proofs.Taken.{taken-after, taken-on, on-taken, after-tidy}
+use Rattle.links.proofs.Rows.{In-others, others-In, after-full, after-others}
 use Rattle.links.proofs.Gathering.{In-gather, gather-In, gather-column, gather-fresh}
 use Rattle.showing.specs.Showing.{state_of}
 use Rattle.showing.proofs.Shows.{Linked, uncoloured-node, node-uncoloured}
 use Rattle.showing.proofs.Columns.{column←}
 use Rattle.showing.proofs.Gathered.{hidden-picks}
-
--- The ground after nodes xs were taken out, with the plan of g in plain sight.
-abbrev pub after : Ground → List ℕ → Ground
-after g xs =
-    let h = taken g xs in
-    record { plan = g.plan; on = h.on; heads = h.heads; up = h.up; down = h.down }
-
-pub taken-after : (g : Ground) (xs : List ℕ) → taken g xs ≡ after g xs
-taken-after g xs =
-    let h = taken g xs in
-    ap (λ (P : Plan). record { plan = P; on = h.on; heads = h.heads; up = h.up; down = h.down }) (taken-plan g xs)
 
 -- while c is hidden
 abbrev pub hiding : Ground → ℕ → Ground
@@ -88,7 +74,7 @@ module _ (g : Ground) (R : Ready g) (c : ℕ) where
 
   -- so the lists are tidy then
   pub hiding-tidy : Tidy (hiding g c)
-  hiding-tidy = subst Tidy (hiding-is g c) (taken-tidy g (hides g (c + 1)) R.tidy hides-fresh)
+  hiding-tidy = after-tidy g (hides g (c + 1)) R.tidy hides-fresh
 
   -- which nodes are in their columns
   pub hiding→ : (y : ℕ) → EntryOf g.plan y → (hiding g c).on y ≡ true → (g.on y ≡ true) × (g.plan.col y ≢ c + 1 → T (not (holds_uncoloured c (option_at (state_of g) (g.plan.number y)))))
@@ -105,8 +91,7 @@ module _ (g : Ground) (R : Ready g) (c : ℕ) where
 
   -- the rows are as they were
   pub hiding-full : (y : ℕ) → EntryOf g.plan y → full (hiding g c).heads y ≡ full g.heads y
-  hiding-full y e = ap (λ (z : ℤ). ltb 0 (item_of z)) (taken-head g (hides g (c + 1)) R.tidy hides-fresh y (entry-no-header g.plan W y e))
+  hiding-full = after-full g (hides g (c + 1)) R.tidy hides-fresh
 
   pub hiding-others : (y : ℕ) → EntryOf g.plan y → others (hiding g c) y ≡ others g y
-  unfolding others
-  hiding-others y e = ap (λ (h : Ground). walked h y y) (sym (hiding-is g c)) ∙ walked-taken g R.tidy (hides g (c + 1)) hides-fresh y e y (omega (arith, e.till))
+  hiding-others = after-others g (hides g (c + 1)) R.tidy hides-fresh

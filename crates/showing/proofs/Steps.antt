@@ -26,7 +26,7 @@ use Rattle.links.specs.Ground.{Ground, taken}
 use Rattle.links.specs.Shown.{shown_row, shown, Ready}
 use Rattle.links.specs.Taking.{holds_column, mask_without}
 use Rattle.links.proofs.Plans.{entry-from}
-use Rattle.links.proofs.Grounds.{taken-plan, off-taken, taken-off, taken-on}
+use Rattle.links.proofs.Taken.{taken-plan, off-taken, taken-off, taken-on}
 use Rattle.showing.specs.Showing.{state_of, deletes, Condemns}
 use Rattle.showing.proofs.Shows.{shown-at, node-holds, option-In, In-option}
 use Rattle.showing.proofs.Masks.{row_same, row-emptied, row-without, shown-each}

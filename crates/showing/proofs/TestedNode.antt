@@ -12,7 +12,7 @@ use Rattle.links.specs.Ground.{Ground, taken}
 use Rattle.links.specs.Shown.{Ready}
 use Rattle.links.specs.Taking.{hides, Tested}
 use Rattle.links.proofs.Plans.{entry-no-header}
-use Rattle.links.proofs.Grounds.{off-taken, taken-off, taken-on, taken-head}
+use Rattle.links.proofs.Taken.{off-taken, taken-off, taken-on, taken-head}
 use Rattle.showing.specs.Showing.{state_of}
 use Rattle.showing.proofs.Shows.{own-option, node-uncoloured}
 use Rattle.showing.proofs.HiddenStates.{hiding, hiding-is, hides-In, In-hides, hides-fresh, hiding-tidy, hiding→, hiding←, hiding-own}

@@ -8,6 +8,7 @@ use mathlib.Core.List.Memᴰ.{head as here}
 use mathlib.Core.List.Memᴰ.{tail as next}
 use mathlib.Core.List.{List, [], ◌∷◌, ◌++◌, Memᴰ as In}
 use lib.ListN.{length, get_or, drop}
+use Rattle.rules.specs.Bounds.{word_bound}
 use Rattle.rules.specs.Lists.{written}
 use Rattle.words.specs.Bytes.{number_of, numbers_of, bytes_of, ragged}
 use Rattle.words.proofs.Counting.{even, length-bytes}
@@ -17,10 +18,10 @@ abbrev pub Below : ℕ → List ℕ → Type 0
 Below m l = (k : ℕ) → get_or l k 0 < m
 
 -- A number, by its four bytes, is below 2 ^ 32.
-pub number_small : (a b c d : ℕ) → a < 256 → b < 256 → c < 256 → d < 256 → number_of a b c d < 4294967296
+pub number_small : (a b c d : ℕ) → a < 256 → b < 256 → c < 256 → d < 256 → number_of a b c d < word_bound
 number_small a b c d p q r s = omega arith
 
-pub numbers-small : (l : List ℕ) → Below 256 l → Below 4294967296 (numbers_of l)
+pub numbers-small : (l : List ℕ) → Below 256 l → Below word_bound (numbers_of l)
 numbers-small [] h k = omega arith
 numbers-small (a ∷ []) h k = omega arith
 numbers-small (a ∷ b ∷ []) h k = omega arith
@@ -32,7 +33,7 @@ numbers-small (a ∷ b ∷ c ∷ d ∷ l) h (suc k) = numbers-small l (λ j. h (
 digits : (n a q b r c s d : ℕ) → a + 256 * q ≡ n → b + 256 * r ≡ q → c + 256 * s ≡ r → d ≡ s → number_of a b c d ≡ n
 digits n a q b r c s d e f g h = omega arith
 
-pub number-back : (n : ℕ) → n < 4294967296 → number_of (n % 256) (n / 256 % 256) (n / 65536 % 256) (n / 16777216 % 256) ≡ n
+pub number-back : (n : ℕ) → n < word_bound → number_of (n % 256) (n / 256 % 256) (n / 65536 % 256) (n / 16777216 % 256) ≡ n
 number-back n h =
     let e = div-div-eq-div-mul n 256 256 in
     let f = div-div-eq-div-mul n 65536 256 in
@@ -42,14 +43,14 @@ number-back n h =
     split : (q r : ℕ) → q / 256 ≡ r → q % 256 + 256 * r ≡ q
     split q r e = omega arith
 
-    top : (n : ℕ) → n < 4294967296 → n / 16777216 < 256
+    top : (n : ℕ) → n < word_bound → n / 16777216 < 256
     top n h = omega arith
 
-pub numbers-front : (ns rest : List ℕ) → Below 4294967296 ns → numbers_of (bytes_of ns ++ rest) ≡ ns ++ numbers_of rest
+pub numbers-front : (ns rest : List ℕ) → Below word_bound ns → numbers_of (bytes_of ns ++ rest) ≡ ns ++ numbers_of rest
 numbers-front [] rest h = refl
 numbers-front (n ∷ ns) rest h = rw (number-back n (h 0), numbers-front ns rest (λ k. h (suc k)))
 
-pub numbers-bytes : (ns : List ℕ) → Below 4294967296 ns → numbers_of (bytes_of ns) ≡ ns
+pub numbers-bytes : (ns : List ℕ) → Below word_bound ns → numbers_of (bytes_of ns) ≡ ns
 numbers-bytes [] h = refl
 numbers-bytes (n ∷ ns) h = rw (number-back n (h 0), numbers-bytes ns (λ k. h (suc k)))
 
@@ -88,7 +89,7 @@ numbers-drop (suc k) l = let e : 4 * suc k ≡ suc (suc (suc (suc (4 * k)))) = o
     go (a ∷ b ∷ c ∷ d ∷ l) f = f l
 
 -- Numbers written to the front of a byte list are written to the front of its numbers.
-pub numbers-written : (new old : List ℕ) → Below 4294967296 new → numbers_of (written (bytes_of new) old) ≡ written new (numbers_of old)
+pub numbers-written : (new old : List ℕ) → Below word_bound new → numbers_of (written (bytes_of new) old) ≡ written new (numbers_of old)
 numbers-written new old h =
     numbers-front new (drop (length (bytes_of new)) old) h
     ∙ ap (λ (k : ℕ). new ++ numbers_of (drop k old)) (length-bytes new)

@@ -9,6 +9,7 @@ use borrow.Rule.Slice.PartMut.{put_mid}
 use Rattle.std.proofs.lemmas.List.{append_assoc, append-nil}
 use Rattle.std.proofs.lemmas.List.Edits.{paste_all, sets-eq}
 use Rattle.std.proofs.lemmas.Slice.{put_mid-paste}
+use Rattle.rules.specs.Bounds.{word_bound}
 use Rattle.rules.specs.Lists.{each, written}
 use Rattle.theorems.proofs.Words.Lists.{each_append}
 use Rattle.theorems.proofs.Words.Written.{written_behind}
@@ -60,7 +61,7 @@ bytes_next words old k h w =
     ∙ ap (λ (l : List ℕ). written l old) (each_bytes (take (k + 1) words))
 
 -- a number stored is that number of the list
-pub numbers-put : (l : List ℕ) (k v : ℕ) → k < length (numbers_of l) → v < 4294967296 → numbers_of (sets l (4 * k) (bytes_of (v ∷ []))) ≡ set (numbers_of l) k v
+pub numbers-put : (l : List ℕ) (k v : ℕ) → k < length (numbers_of l) → v < word_bound → numbers_of (sets l (4 * k) (bytes_of (v ∷ []))) ≡ set (numbers_of l) k v
 numbers-put [] k v h w = absurd (omega arith)
 numbers-put (a ∷ []) k v h w = absurd (omega arith)
 numbers-put (a ∷ b ∷ []) k v h w = absurd (omega arith)

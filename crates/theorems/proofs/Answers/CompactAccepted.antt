@@ -81,7 +81,8 @@ module _ (f : Figures) (a : Problem) (A : Accepted f a) (s : State) (S : Sound a
   fewer-entries : length (each (λ o. o) (compact_options a.n s)) ≤ f.entries
   fewer-entries =
       let made = ap (λ (l : List Entry). length l) (each_map (λ (x : Numbered). renamed (kept_items a.n s) x.entries) (λ o. o) (kept_options a.n s)) in
-      let same = each-lengths (λ (x : Numbered). renamed (kept_items a.n s) x.entries) (λ (x : Numbered). x.entries) (kept_options a.n s) (λ x. length-renamed (kept_items a.n s) x.entries) in
+      let same = each-lengths (λ (x : Numbered). renamed (kept_items a.n s) x.entries) (λ (x : Numbered). x.entries) (kept_options a.n s)
+      (λ x. length-renamed (kept_items a.n s) x.entries) in
       let most = entries-most a.n s in
       let part = P.size in
       let given = A.entries in

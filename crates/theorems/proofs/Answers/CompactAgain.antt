@@ -54,10 +54,12 @@ module _ (np n : ℕ) (s : State) (R : Repeats np n s) where
   said-again settled = rw (primaries, secondaries, options, entries)
     where
       primaries : primaries_of (compact_of np n s).np (kept_items (compact_of np n s).n (compact_of np n s).options) ≡ primaries_of np (kept_items n s)
-      primaries = ap (λ (l : List ℕ). primaries_of (compact_of np n s).np l) R.items ∙ count-below (compact_of np n s).np (compact_of np n s).n (count-length (λ c. ltb c np) (kept_items n s))
+      primaries = ap (λ (l : List ℕ). primaries_of (compact_of np n s).np l) R.items
+          ∙ count-below (compact_of np n s).np (compact_of np n s).n (count-length (λ c. ltb c np) (kept_items n s))
 
       secondaries : secondaries_of (compact_of np n s).np (kept_items (compact_of np n s).n (compact_of np n s).options) ≡ secondaries_of np (kept_items n s)
-      secondaries = ap (λ (l : List ℕ). secondaries_of (compact_of np n s).np l) R.items ∙ count-not-below (compact_of np n s).np (secondaries_of np (kept_items n s)) (compact_of np n s).n (all-kept-items np n s)
+      secondaries = ap (λ (l : List ℕ). secondaries_of (compact_of np n s).np l) R.items
+          ∙ count-not-below (compact_of np n s).np (secondaries_of np (kept_items n s)) (compact_of np n s).n (all-kept-items np n s)
 
       options : length (kept_options (compact_of np n s).n (compact_of np n s).options) ≡ length (kept_options n s)
       options = ap (λ (l : List Numbered). length l) R.options ∙ length-numbered 0 (compact_of np n s).options ∙ compact-count n s

@@ -74,7 +74,8 @@ module _ (np n : ℕ) (s : State) where
   all-kept-items = count-split (λ c. ltb c np) (kept_items n s)
 
   -- The flat lists stand for the compact problem.
-  pub compact-flat : problem_of (primaries_of np (kept_items n s)) (secondaries_of np (kept_items n s)) (map (place (kept_items n s)) (results_of n s).items) (results_of n s).colours (results_of n s).ends
+  pub compact-flat : problem_of (primaries_of np (kept_items n s)) (secondaries_of np (kept_items n s)) (map (place (kept_items n s)) (results_of n s).items)
+      (results_of n s).colours (results_of n s).ends
       ≡ compact_of np n s
   unfolding problem_of compact_of results_of
   compact-flat = ap₂ (λ (m : ℕ) (os : List (List Entry)). record { np = primaries_of np (kept_items n s); n = m; options = os }) all-kept-items options

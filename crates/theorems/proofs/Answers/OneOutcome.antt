@@ -17,7 +17,7 @@ use Rattle.theorems.proofs.Checks.Paper.{paper-one}
 
 -- At any figures: a refusal, and what is found where there is none
 pub outcome-refused : (f : Figures) (ragged : Bool) (h : Handed) (r : Refusal) → refusal_of f ragged h ≡ some r
-    → outcome_at f ragged h ≡ record { said = said_refused r.number r.place; room = h.room; results = h.results }
+    → outcome_at f ragged h ≡ record { said = said_refused r; room = h.room; results = h.results }
 unfolding outcome_at
 outcome-refused f ragged h r e = rw e
 
@@ -32,7 +32,7 @@ answer-one h x y e k = paper-one x y (e ∙ sym k)
 
 -- A refusal writes nothing anywhere.
 pub refused-nothing-written : (h : Handed) (r : Refusal) → refusal_of figures false h ≡ some r
-    → outcome_of h ≡ record { said = said_refused r.number r.place; room = h.room; results = h.results }
+    → outcome_of h ≡ record { said = said_refused r; room = h.room; results = h.results }
 refused-nothing-written h r e = outcome-refused figures false h r e
 
 -- Infeasible writes no result.

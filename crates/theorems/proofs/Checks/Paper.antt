@@ -13,13 +13,15 @@ use Rattle.rules.specs.declared.number.Item.{Item}
 use Rattle.rules.specs.declared.refusal.Check.{Check}
 use Rattle.rules.specs.declared.refusal.Check.TheVariants.{NoPrimary, TooManyItems, NoOption, TooManyOptions, Uneven, TooManyEntries, WrongEnd, ShortRoom, ShortResult, NoSuchItem, ColourTooHigh, ColouredPrimary, ItemTwice}
 use Rattle.rules.specs.declared.refusal.Refusal.{Refusal}
-use Rattle.rules.specs.Refusals.{number_of}
+use Rattle.rules.specs.Checks.{Refusal as PaperRefusal}
+use Rattle.rules.specs.Refusals.{number_of, as_paper}
 use Rattle.rules.specs.Paper.{Said, said_infeasible, said_refused, cause_number, paper}
 
 -- Each number is that of one check, and of one cause
 
 abbrev check_of : ℕ → Check
-check_of n = get_or (NoPrimary ∷ TooManyItems ∷ NoOption ∷ TooManyOptions ∷ Uneven ∷ TooManyEntries ∷ WrongEnd ∷ ShortRoom ∷ ShortResult ∷ NoSuchItem ∷ ColourTooHigh ∷ ColouredPrimary ∷ ItemTwice ∷ []) (n - 10) NoPrimary
+check_of n = get_or (NoPrimary ∷ TooManyItems ∷ NoOption ∷ TooManyOptions ∷ Uneven ∷ TooManyEntries ∷ WrongEnd ∷ ShortRoom ∷ ShortResult ∷ NoSuchItem ∷ ColourTooHigh
+    ∷ ColouredPrimary ∷ ItemTwice ∷ []) (n - 10) NoPrimary
 
 check-back : (c : Check) → check_of (number_of c) ≡ c
 check-back NoPrimary = refl
@@ -101,8 +103,10 @@ infeasible-one (Infeasible i k l) e = let v = values e in (i, k, cc, cc, cc)
 infeasible-one (Refused n) e = let h = lengths e in absurd (omega arith)
 
 -- and what says refused is refused
-pub refused-one : (x : Answer) {number place : ℕ} → paper x ≡ said_refused number place
-    → (r : Refusal) × (x ≡ Refused r) × (number_of r.check ≡ number) × (r.place ≡ place)
+abbrev refusal_said : Said → PaperRefusal
+refusal_said s = record { number = s.number; place = get_or s.values 0 0 }
+
+pub refused-one : (x : Answer) {r : PaperRefusal} → paper x ≡ said_refused r → (q : Refusal) × (x ≡ Refused q) × (as_paper q ≡ r)
 refused-one (Reduced a b c d r t) e = let h = lengths e in absurd (omega arith)
 refused-one (Infeasible i k l) e = let h = lengths e in absurd (omega arith)
-refused-one (Refused r) e = let v = values e in (r, refl, ap (λ (z : Said). z.number) e, cc)
+refused-one (Refused q) e = (q, refl, ap refusal_said e)

@@ -29,7 +29,8 @@ module _ (n : ℕ) (s : State) where
       → (e' : Entry) × In e' (option_at (compact_options n s) j) × ItemPlace e.item e'.item × (e.colour ≡ e'.colour)
   renamed-there below k j o e m =
       let at : In e (option_at s (number_at n s j)) = subst (λ (i : ℕ). In e (option_at s i)) (sym o.1) m in
-      let put : In (ren (kept_items n s) e) (option_at (compact_options n s) j) = subst (λ (v : List Entry). In (ren (kept_items n s) e) v) (sym (compact-at n s j o.0)) (map-In (ren (kept_items n s)) (option_at s (number_at n s j)) at) in
+      let put : In (ren (kept_items n s) e) (option_at (compact_options n s) j) =
+      subst (λ (v : List Entry). In (ren (kept_items n s) e) v) (sym (compact-at n s j o.0)) (map-In (ren (kept_items n s)) (option_at s (number_at n s j)) at) in
       (ren (kept_items n s) e, put, (entry_kept n s below (option_at s k) (entry-In s k m) e m, refl), refl)
 
   renamed-back : ItemsBelow n s → (k j : ℕ) → OptionPlace k j → (e' : Entry) → In e' (option_at (compact_options n s) j)
@@ -49,7 +50,8 @@ compact-alike np n s below = record {
   primary-there = λ q q' i lt. subst (λ (x : ℕ). x < (compact_of np n s).np) i.1 (place-below (kept_items n s) (kept-rises n s) np i.0 lt);
   primary-back = λ q q' i lt. below-place (kept_items n s) (kept-rises n s) np i.0 (subst (λ (x : ℕ). x < (compact_of np n s).np) (sym i.1) lt);
   present-there = λ q t. let m = live-kept n s below t in (place (kept_items n s) q, up_to-In (length (kept_items n s)) (place_found (kept_items n s) m).0, (m, refl));
-  present-back = λ q' m. let i = get_or-In (kept_items n s) q' 0 (inside q' m) in (get_or (kept_items n s) q' 0, (kept→ n s i).1, (i, place-get_or (kept_items n s) (kept-once n s) q' (inside q' m)));
+  present-back = λ q' m. let i = get_or-In (kept_items n s) q' 0 (inside q' m) in
+      (get_or (kept_items n s) q' 0, (kept→ n s i).1, (i, place-get_or (kept_items n s) (kept-once n s) q' (inside q' m)));
   option-there = λ k k' l' o p. get_or-inj (numbers_of (kept_options n s)) (kept-distinct n s) o.0 p.0 (o.1 ∙ sym p.1);
   option_back = λ k l k' o p. sym o.1 ∙ p.1;
   entry-there = λ k k' o e m. renamed-there n s below k k' o e m;

@@ -107,11 +107,13 @@ module _ (np : ℕ) (s : State) (c : ℕ) where
   none_stays : (o : List Entry) → In o s → last_that (redundant_for np s c) (cond (holds_uncoloured c o) (around c o) []) ≡ last_that (redundant_for np s c) (around c o)
   none_stays o m = go (T-dec (holds_uncoloured c o))
     where
-      go : T (holds_uncoloured c o) ⊎ T (not (holds_uncoloured c o)) → last_that (redundant_for np s c) (cond (holds_uncoloured c o) (around c o) []) ≡ last_that (redundant_for np s c) (around c o)
+      go : T (holds_uncoloured c o) ⊎ T (not (holds_uncoloured c o))
+          → last_that (redundant_for np s c) (cond (holds_uncoloured c o) (around c o) []) ≡ last_that (redundant_for np s c) (around c o)
       go (inl t) = rw (T_true (holds_uncoloured c o) t)
       go (inr t) =
           rw (T_false (holds_uncoloured c o) t)
-          (sym (none-last_that (redundant_for np s c) (around c o) (λ q n. not_T (redundant_for np s c q) (λ u. T_not (holds_uncoloured c o) t ((redundant→ np s c q u).only o m (around→ c o n))))))
+          (sym (none-last_that (redundant_for np s c) (around c o)
+          (λ q n. not_T (redundant_for np s c q) (λ u. T_not (holds_uncoloured c o) t ((redundant→ np s c q u).only o m (around→ c o n))))))
 
   pub hiding-finds : last_emptied (λ q. ltb q np && not (eqb q c)) (hidden_state c s) (leaving_hidden c s) ≡ chosen np s c
   hiding-finds =

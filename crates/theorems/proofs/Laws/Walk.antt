@@ -49,7 +49,9 @@ module _ (np : ℕ) (s : State) (c : ℕ) where
       go (inr t) =
           none-last_that (redundant_for np s c) (each (around c) s) (λ q m. no q)
           ∙ sym (none-last_that (λ q. redundant_for np s c q && eqb (highest s q) (top np s c)) (around c (option_at s (top np s c)))
-          (λ q m. not_T (redundant_for np s c q && eqb (highest s q) (top np s c)) (λ u. T_not (redundant_for np s c q) (no q) (T_and (redundant_for np s c q) (eqb (highest s q) (top np s c)) u).0)))
+          (λ q m. not_T (redundant_for np s c q && eqb (highest s q) (top np s c))
+          (λ u. T_not (redundant_for np s c q) (no q) (T_and (redundant_for np s c q) (eqb (highest s q) (top np s c)) u).0)))
         where
           no : (q : ℕ) → T (not (redundant_for np s c q))
-          no q = not_T (redundant_for np s c q) (λ u. T_not (any (redundant_for np s c) (up_to np)) t (any← (redundant_for np s c) (up_to np) (up_to-In np (redundant→ np s c q u).primary) u))
+          no q = not_T (redundant_for np s c q)
+              (λ u. T_not (any (redundant_for np s c) (up_to np)) t (any← (redundant_for np s c) (up_to np) (up_to-In np (redundant→ np s c q u).primary) u))

@@ -78,7 +78,8 @@ module _ (np n : ℕ) where
   steps-tell [] below s false = (refl, λ c m. absurd (not-nil m))
   steps-tell (c ∷ cs) below s removed = live (in_live c s) refl (λ s' b. steps-tell cs (λ d m. below d (next m)) s' b)
     where
-      more : (x : Step) → Tells (c ∷ []) s false x → ((s' : State) (b : Bool) → Tells cs s' b (item_steps np cs s' b)) → Tells (c ∷ cs) s removed (and_then x (λ s' b. item_steps np cs s' (removed || b)))
+      more : (x : Step) → Tells (c ∷ []) s false x → ((s' : State) (b : Bool) → Tells cs s' b (item_steps np cs s' b))
+          → Tells (c ∷ cs) s removed (and_then x (λ s' b. item_steps np cs s' (removed || b)))
       more (went s' true) h r = rw (or-true removed) (after-fall c cs s s' removed (item_steps np cs s' true) h (r s' true))
       more (went s' false) h r = rw (or-false removed, h.0) (after-quiet c cs s removed (item_steps np cs s removed) h.1 (r s removed))
       more (emptied q cause) h r = tt
@@ -87,7 +88,8 @@ module _ (np n : ℕ) where
       idle e d (here i) t = absurd (T_not (in_live c s) (false-T e) (rw i at t))
       idle e d (next m) t = absurd (not-nil m)
 
-      live : (b : Bool) → in_live c s ≡ b → ((s' : State) (b : Bool) → Tells cs s' b (item_steps np cs s' b)) → Tells (c ∷ cs) s removed (and_then (elim b [ true ↦ item_step np c s | false ↦ went s false ]) (λ s' b. item_steps np cs s' (removed || b)))
+      live : (b : Bool) → in_live c s ≡ b → ((s' : State) (b : Bool) → Tells cs s' b (item_steps np cs s' b))
+          → Tells (c ∷ cs) s removed (and_then (elim b [ true ↦ item_step np c s | false ↦ went s false ]) (λ s' b. item_steps np cs s' (removed || b)))
       live true e r = more (item_step np c s) (step-tells c s (below c (here refl)) (true-T e)) r
       live false e r = more (went s false) (refl, idle e) r
 

@@ -58,7 +58,8 @@ module _ {np : ℕ} {R : State → State → Type 0} {E : State → ℕ → ℕ 
           pass (emptied q cause) k = K.late s s' q cause h k
       more (emptied q cause) h r = h
 
-      live : (b : Bool) → in_live c s ≡ b → ((s' : State) (b : Bool) → StepIs R E s' (item_steps np cs s' b)) → StepIs R E s (and_then (elim b [ true ↦ item_step np c s | false ↦ went s false ]) (λ s' b. item_steps np cs s' (removed || b)))
+      live : (b : Bool) → in_live c s ≡ b → ((s' : State) (b : Bool) → StepIs R E s' (item_steps np cs s' b))
+          → StepIs R E s (and_then (elim b [ true ↦ item_step np c s | false ↦ went s false ]) (λ s' b. item_steps np cs s' (removed || b)))
       live true e r = more (item_step np c s) (step_is c s (rw e tt)) r
       live false e r = more (went s false) (K.same s) r
 

@@ -65,7 +65,8 @@ module _ {A : Type 0} where
   count-split f [] = refl
   count-split f (y ∷ l) = go (f y) (count-split f l)
     where
-      go : (b : Bool) → count f l + count (λ x. not (f x)) l ≡ length l → cond b (suc (count f l)) (count f l) + cond (not b) (suc (count (λ x. not (f x)) l)) (count (λ x. not (f x)) l) ≡ suc (length l)
+      go : (b : Bool) → count f l + count (λ x. not (f x)) l ≡ length l
+          → cond b (suc (count f l)) (count f l) + cond (not b) (suc (count (λ x. not (f x)) l)) (count (λ x. not (f x)) l) ≡ suc (length l)
       go true h = omega arith
       go false h = omega arith
 

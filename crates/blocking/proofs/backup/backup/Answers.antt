@@ -4,7 +4,7 @@ use Rattle.std.proofs.Common.{rules, ◌∙◌, sym, length}
 use Rattle.links.specs.Row.{walked}
 use Rattle.links.specs.Taking.{testing}
 use Rattle.links.proofs.SameNodes.{same-then}
-use Rattle.blocking.specs.Undo.{after}
+use Rattle.links.specs.Ground.{after}
 use Rattle.blocking.proofs.Backwards.{behind-in, behind-done, behind-over, behind-over-way, behind-link, behind-below, behind-back}
 use Rattle.blocking.proofs.backup.backup.Goals as goal
 

@@ -5,7 +5,8 @@ use Rattle.links.specs.Nodes.{in_nodes}
 use Rattle.links.proofs.SameNodes.{same-then}
 use Rattle.blocking.specs.Undo.{Behind}
 use Rattle.blocking.specs.Forward.{ground_at, ground_to}
-use Rattle.blocking.proofs.Restoring.{stopped-some, stopped-half, stopped-link, stopped-below, stopped-behind, lists-same}
+use Rattle.links.proofs.Determined.{holds-same}
+use Rattle.blocking.proofs.Restoring.{stopped-some, stopped-half, stopped-link, stopped-below, stopped-behind}
 use Rattle.blocking.proofs.Meaning.{stopped-blocked, round-free}
 use Rattle.blocking.proofs.blocked.blocked.Goals as goal
 use Rattle.blocking.proofs.blocked.blocked.Goals.{After-pass_2}
@@ -51,7 +52,7 @@ pub backup-requires-2 : goal.backup-requires-2
 backup-requires-2 c = (c.requires.0, behind (goal.at.backup-requires-2 c).After-pass_2)
 
 pub returns-clause-same : goal.returns-clause-same
-returns-clause-same c = lists-same c.requires.2 (c.backup-2.ensures.undone c.requires.0 (behind (goal.at.returns-clause-same c).After-pass_2))
+returns-clause-same c = holds-same c.requires.2 (c.backup-2.ensures.undone c.requires.0 (behind (goal.at.returns-clause-same c).After-pass_2))
 
 pub returns-clause-answer : goal.returns-clause-answer
 returns-clause-answer c = λ h w l. sym (stopped-blocked (c.in-Some.ensures.place h w l))

@@ -13,8 +13,8 @@ tint : (c : In-loop-nodes) → c.loop-nodes.rr < length c.args.tints.now
 tint c = below-tint (c.loop-nodes.invariant.1 c.requires.0 c.requires.1) (omega (arith, c.loop-nodes-test.true, c.loop-nodes.invariant.0.start))
 
 -- after the branch k's option is whole, and the nodes are still the same ones
-met : (c : Joined-clash) (g : Ground) → in_nodes (Below g c.args.tints.now c.args.from c.args.x c.args.nodes.now.start) c.args.nodes.now
-    → in_nodes (Above g c.args.tints.now c.loop-nodes.rr c.args.x c.args.nodes.now.start) c.if-clash.nodes
+met : (c : Joined-clash) (g : Ground) → in_nodes (Below g c.args.tints.now c.args.from c.args.tint c.args.nodes.now.start) c.args.nodes.now
+    → in_nodes (Above g c.args.tints.now c.loop-nodes.rr c.args.tint c.args.nodes.now.start) c.if-clash.nodes
 met c g m =
     let b = c.loop-nodes.invariant.1 g m in
     let h : c.args.nodes.now.start ≤ c.loop-nodes.rr = omega (arith, c.loop-nodes-test.true, c.loop-nodes.invariant.0.start) in

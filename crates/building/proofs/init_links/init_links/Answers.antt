@@ -16,13 +16,13 @@ loop-k-init c =
 pub put_option-edge-requires-clause-turn : goal.put_option-edge-requires-clause-turn
 put_option-edge-requires-clause-turn c =
     let B = c.requires.2 in
-    turn-asks B (c.loop-k.invariant.2 _ _ B) c.loop-k-test.true c.loop-k.invariant.0.np
+    turn-asks B (c.loop-k.invariant.2 _ _ B) c.loop-k-test.true c.loop-k.invariant.0.np c.from.ensures
 
 pub loop-k-preserved : goal.loop-k-preserved
 loop-k-preserved c =
     let l = c.loop-k in
     let o = c.put_option-edge.ensures in
-    let next = λ (f : Figures) (ns : ℕ) (B : Buildable f _ ns _ _ _ _ _ _ _ _ _). place-next B (l.invariant.2 f ns B) c.loop-k-test.true l.invariant.0.np o.place o.laid in
+    let next = λ (f : Figures) (ns : ℕ) (B : Buildable f _ ns _ _ _ _ _ _ _ _ _). place-next B (l.invariant.2 f ns B) c.loop-k-test.true l.invariant.0.np c.from.ensures o.place o.laid in
     (same-then l.invariant.0 o.nodes, λ m. part-in c.requires.2 (next _ _ c.requires.2) m, next)
 
 pub close_columns-requires : goal.close_columns-requires

@@ -1,12 +1,11 @@
 -- `condemning::condemn::delete_condemned` meets its contract: the options of the chain are deleted one after another, until a primary item is left in none.
 -- Assumes nothing.
 use Rattle.std.proofs.Common.{◌≡◌, ℕ, rules, arith, refl, ◌∙◌, sym, ap}
-use Rattle.links.specs.Ground.{Ground}
+use Rattle.links.specs.Ground.{Ground, after}
 use Rattle.links.specs.Nodes.{in_nodes, column}
 use Rattle.links.proofs.Endings.{ending_err, at_ok, at_some}
 use Rattle.links.proofs.SameNodes.{same-refl, same-then}
 use Rattle.showing.specs.Showing.{deletes}
-use Rattle.showing.proofs.HiddenStates.{after}
 use Rattle.condemning.specs.Search.{Sparing}
 use Rattle.condemning.proofs.Chained.{node_in, node_column, at_end}
 use Rattle.condemning.proofs.Sparing.{Onwards, spare-begin, spare-end, spare-deleting, spare-within, spare-stop, spare-onwards}

@@ -1,14 +1,9 @@
 -- `hiding::away::hide_option` meets its contract: at each place of the walk the lists are without what it passed. Assumes nothing.
-use Rattle.std.proofs.Common.{ℕ, ◌≤◌, ◌≡◌, ◌∙◌, ◌&&◌, cond, List, length, eqb, sym, arith, Some}
+use Rattle.std.proofs.Common.{◌≡◌, ◌∙◌, ◌&&◌, cond, length, eqb, sym, arith, Some}
 use Rattle.std.proofs.Math.Dec.{leb}
-use Rattle.std.proofs.Math.IntN.{ℤ}
-use Rattle.links.specs.Ground.{Ground, Tidy, Holds}
 use Rattle.links.proofs.SameNodes.{same-refl, same-then}
 use Rattle.hiding.proofs.Round.{begin, finish, over, over-less, unlink-needs, fewer-needs, full}
 use Rattle.hiding.proofs.away.hide_option.Goals as goal
-
-room : {g : Ground} {heads : List ℤ} {up down : List ℕ} → Tidy g → Holds g heads up down → g.plan.N ≤ length heads
-room t k = rw k.heads-are t.heads-in
 
 pub loop-qq-init : goal.loop-qq-init
 loop-qq-init c = (same-refl c.args.nodes.now, λ g a k. begin a k)
@@ -17,7 +12,7 @@ pub loop-qq-smaller-in-None : goal.loop-qq-smaller-in-None
 loop-qq-smaller-in-None c =
     rw c.above-qq.ensures.node
     (over-less c.requires.1 (c.loop-qq.invariant.1 c.requires.0 c.requires.1 c.requires.2) (omega arith) (sym c.in-None.is ∙ c.column.ensures) (length c.args.nodes.now.heads.now)
-    (room c.requires.1.tidy c.requires.2))
+    c.loop-qq.invariant.0.heads-long)
 
 pub loop-qq-preserved-in-None : goal.loop-qq-preserved-in-None
 loop-qq-preserved-in-None c =

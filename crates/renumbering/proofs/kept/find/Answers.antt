@@ -9,5 +9,5 @@ pub returns : goal.returns
 returns g c = λ r.
     let v = g.N.Numeral.value in
     ap as_option c.ok.ensures.value
-    ∙ searched-place v c.args.kept.now r c.args.i c.binary_search_by_key.result c.binary_search_by_key.ensures.bound
+    ∙ searched-place v c.args.kept.now r c.args.i.0 c.binary_search_by_key.result c.binary_search_by_key.ensures.bound
     (c.binary_search_by_key.ensures.position v (always_returns_same _ (λ a r. r ≡ v a.0.now) _ (λ a r q k. search rules)))

@@ -7,4 +7,4 @@ use Rattle.renumbering.proofs.kept.is_kept.Goals as goal
 pub returns : goal.returns
 returns g c = λ r.
     let v = g.N.Numeral.value in
-    c.is_some.ensures ∙ found-member (map v c.args.kept.now) c.args.i _ c.find.result (sym (length-map c.args.kept.now v)) (c.find.ensures r)
+    c.is_some.ensures ∙ found-member (map v c.args.kept.now) c.args.i.0 _ c.find.result (sym (length-map c.args.kept.now v)) (c.find.ensures r)

@@ -28,4 +28,4 @@ returns c =
     let a = c.args in
     let f = compact_item a.kept.now a.primaries in
     lists-done a.kept.now a.primaries a.items.now a.out.now f (c.in_ok-check.ensures a.out.now refl)
-    (c.write.ensures f (λ i n t k. let e : n ≡ place (map (λ m. m) a.kept.now) i = search rules in e ∙ ap (λ l. place l i) (map-id a.kept.now)))
+    (c.write.ensures f (λ i n t k. let e : n.0 ≡ place (map (λ m. m) a.kept.now) i.0 = search rules in e ∙ ap (λ l. place l i.0) (map-id a.kept.now)))

@@ -28,7 +28,7 @@ write-requires c =
       kept = w.1;
       room = omega (arith, w.2, length-map a.items.now (λ n. n));
       callable = λ i t.
-          let above : a.primaries ≤ place (map (λ m. m) a.kept.now) i → c.sd-sd.result ≤ i = λ h. omega (arith, secondary-above (map (λ m. m) a.kept.now) a.primaries w.0 i t h, c.sd-sd.ensures, ap (λ l. sd l a.primaries) (map-id a.kept.now)) in search rules;
+          let above : a.primaries ≤ place (map (λ m. m) a.kept.now) i.0 → c.sd-sd.result ≤ i.0 = λ h. omega (arith, secondary-above (map (λ m. m) a.kept.now) a.primaries w.0 i.0 t h, c.sd-sd.ensures, ap (λ l. sd l a.primaries) (map-id a.kept.now)) in search rules;
     }
 
 pub returns : goal.returns
@@ -38,4 +38,4 @@ returns c =
     let w = accepted _ a.primaries _ a.out.now (sym (c.in_ok-check.ensures a.out.now refl)) in
     let f = crate_item a.kept.now a.primaries in
     lists-done a.kept.now a.primaries a.items.now a.out.now f (c.in_ok-check.ensures a.out.now refl)
-    (c.write.ensures f (λ i n t k. let e : n ≡ cond (ltb (place (map (λ m. m) a.kept.now) i) a.primaries) i (i - c.sd-sd.result) = search rules in crate-number a.kept.now a.primaries i n c.sd-sd.result w.0.within c.sd-sd.ensures e))
+    (c.write.ensures f (λ i n t k. let e : n.0 ≡ cond (ltb (place (map (λ m. m) a.kept.now) i.0) a.primaries) i.0 (i.0 - c.sd-sd.result) = search rules in crate-number a.kept.now a.primaries i.0 n.0 c.sd-sd.result w.0.within c.sd-sd.ensures e))

@@ -12,10 +12,10 @@ option-requires c = let p = c.requires in reading-heads p.3 (c.loop-k.invariant.
 pub column-column-requires : goal.column-column-requires
 column-column-requires c = let p = c.requires in reading-heads p.3 (c.loop-k.invariant.4 p.0 p.1 p.2 p.3)
 
-pub overflow_cast-i : goal.overflow_cast-i
-overflow_cast-i c =
+pub overflow_cast-c : goal.overflow_cast-c
+overflow_cast-c c =
     let p = c.requires in
-    omega (arith, reading_small p.3 (c.loop-k.invariant.4 p.0 p.1 p.2 p.3) (cc) c.in-Some-column.i (cc))
+    omega (arith, reading_small p.3 (c.loop-k.invariant.4 p.0 p.1 p.2 p.3) (cc) c.in-Some-column.c (cc))
 
 pub bounds-tints-q : goal.bounds-tints-q
 bounds-tints-q c = let p = c.requires in reading-tints p.3 (c.loop-k.invariant.4 p.0 p.1 p.2 p.3)
@@ -24,7 +24,7 @@ pub put-requires : goal.put-requires
 put-requires c =
     let p = c.requires in
     let b = c.loop-k.invariant.4 p.0 p.1 p.2 p.3 in
-    (reading-items p.3 b (cc) c.in-Some-column.i (cc), reading-colours p.3 b (cc) c.in-Some-column.i (cc))
+    (reading-items p.3 b (cc) c.in-Some-column.c (cc), reading-colours p.3 b (cc) c.in-Some-column.c (cc))
 
 pub overflow_add-q : goal.overflow_add-q
 overflow_add-q c = let p = c.requires in omega (arith, reading-heads p.3 (c.loop-k.invariant.4 p.0 p.1 p.2 p.3))
@@ -41,7 +41,7 @@ loop-k-preserved c =
         w.put.ensures.ends ∙ v.1,
         w.put.ensures.numbers ∙ v.2,
         w.put.ensures.option ∙ v.3,
-        λ g old xs d. rw (w.put.ensures.items, w.put.ensures.colours, w.put.ensures.entry) (reading-one d (v.4 g old xs d) (cc) w.in-Some-column.i (cc)),
+        λ g old xs d. rw (w.put.ensures.items, w.put.ensures.colours, w.put.ensures.entry, w.from.ensures) (reading-one d (v.4 g old xs d) (cc) w.in-Some-column.c (cc)),
       )
       | in_default-column w ↦ rw w.out-is (v.0, v.1, v.2, v.3, λ g old xs d. reading-over d (v.4 g old xs d) (cc) (cc))
     ]
