@@ -8,32 +8,32 @@ use crate::clear::clear_headers;
 use crate::close::close_columns;
 use crate::option::put_option;
 use links::nodes::Nodes;
-use rules::lent::Given;
+use rules::lent::Lists;
 use rules::number::Opt;
 
 // All of it: headers, and the options in their order. An option without a primary item keeps its number and gets no nodes.
-pub fn init_links(nodes: &mut Nodes, tints: &mut [u32], marks: &mut [u32], given: &Given<u32>)
-    requires { (f : Figures) × (ns : ℕ) × in_nodes (Buildable f nodes.old.np ns nodes.old.n given.now.items.now given.now.colours.now given.now.ends.now)
+pub fn init_links(nodes: &mut Nodes, tints: &mut [u32], marks: &mut [u32], lists: &Lists)
+    requires { (f : Figures) × (ns : ℕ) × in_nodes (Buildable f nodes.old.np ns nodes.old.n lists.now.items.now lists.now.colours.now lists.now.ends.now)
         nodes.old tints.old marks.old }
     ensures nodes { SameNodes nodes.old nodes.new }
     ensures lists { (f : Figures) (ns : ℕ)
-        → in_nodes (Buildable f nodes.old.np ns nodes.old.n given.now.items.now given.now.colours.now given.now.ends.now)
+        → in_nodes (Buildable f nodes.old.np ns nodes.old.n lists.now.items.now lists.now.colours.now lists.now.ends.now)
         nodes.old tints.old marks.old
-        → in_nodes (Built (problem_of nodes.old.np ns given.now.items.now given.now.colours.now given.now.ends.now) nodes.old.n (length given.now.ends.now))
+        → in_nodes (Built (problem_of nodes.old.np ns lists.now.items.now lists.now.colours.now lists.now.ends.now) nodes.old.n (length lists.now.ends.now))
         nodes.new tints.new marks.new }
 {
     clear_headers(nodes, marks);
     let mut edge = nodes.n + 1;
     let mut begin = 0;
-    for (k, &end) in given.ends.iter().enumerate() {
+    for (k, &end) in lists.ends.iter().enumerate() {
         let end = end as usize;
         edge = put_option(
             nodes,
             tints,
             Opt::from(k as u32),
             edge,
-            &given.items[begin..end],
-            &given.colours[begin..end],
+            &lists.items[begin..end],
+            &lists.colours[begin..end],
         );
         begin = end;
     }

@@ -1,3 +1,4 @@
 pub mod Marks
 pub mod Checkable
 pub mod Lent
+pub mod Made

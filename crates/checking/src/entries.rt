@@ -11,6 +11,9 @@ ghost use Rattle.rules.specs.Refusals.{refusal_in};
 ghost use Rattle.checking.specs.Marks.{Seen, BelowMark};
 ghost use Rattle.checking.specs.Checkable.{Checkable};
 
+use rules::lent::Lists;
+use rules::number::Item;
+use rules::problem::Problem;
 use rules::refusal::{Check, Refusal, refuse_if};
 
 // What an entry keeps to: the count of primary items and that of all items, and the highest colour.
@@ -27,23 +30,23 @@ fn check_entry(
     place: u32,
     marks: &[u32],
     mark: u32,
-    item: u32,
+    item: Item,
     colour: u32,
 ) -> Result<(), Refusal>
     requires { limits.n ≤ length marks.now }
-    ensures { (seen : List ℕ) → Seen mark marks.now seen → refusal_in result ≡ check_entry limits.np limits.n limits.colour place seen (record { item = item; colour = colour }) }
+    ensures { (seen : List ℕ) → Seen mark marks.now seen → refusal_in result ≡ check_entry limits.np limits.n limits.colour place seen (record { item = item.0; colour = colour }) }
 {
-    refuse_if(item >= limits.n, Check::NoSuchItem, place)?;
+    refuse_if(item.0 >= limits.n, Check::NoSuchItem, place)?;
     // a speed choice: 20 and 21 refuse no entry without a colour
     if colour > 0 {
         refuse_if(colour > limits.colour, Check::ColourTooHigh, place)?;
-        refuse_if(item < limits.np, Check::ColouredPrimary, place)?;
+        refuse_if(item.0 < limits.np, Check::ColouredPrimary, place)?;
     }
-    refuse_if(marks[item as usize] == mark, Check::ItemTwice, place)
+    refuse_if(marks[item.0 as usize] == mark, Check::ItemTwice, place)
 }
 
-// The option whose entries are those at a..b; `mark` is one that no item has. Here and below the items and the colours come as two slices, and in no
-// struct of them: they are parts of the problem as C lends it, and a struct would be made at each call and taken apart at once.
+// The option whose entries are those at a..b; `mark` is one that no item has. The items and the colours come as two slices, and not as `Lists`: the
+// ends are no matter here.
 fn check_option(
     limits: Limits,
     a: usize,
@@ -60,29 +63,32 @@ fn check_option(
 {
     // by place, since a refusal names the place: a zip of both lists with it would be no plainer
     for j in a..b {
-        let item = items[j];
+        let item = Item(items[j]);
         check_entry(limits, j as u32, &*marks, mark, item, colours[j])?;
-        marks[item as usize] = mark;
+        marks[item.0 as usize] = mark;
     }
     Ok(())
 }
 
 // All of them, option by option.
-pub fn check_entries(
-    limits: Limits,
-    items: &[u32],
-    colours: &[u32],
-    ends: &[u32],
-) -> Result<(), Refusal>
-    requires { Checkable limits.n items.now colours.now ends.now }
-    ensures { refusal_in result ≡ check_options limits.np limits.n limits.colour 0 (cut 0 ends.now (entries_of items.now colours.now)) }
+pub fn check_entries(limits: Limits, lists: &Lists) -> Result<(), Refusal>
+    requires { Checkable limits.n lists.now.items.now lists.now.colours.now lists.now.ends.now }
+    ensures { refusal_in result ≡ check_options limits.np limits.n limits.colour 0 (cut 0 lists.now.ends.now (entries_of lists.now.items.now lists.now.colours.now)) }
 {
     // fixed memory: a mark for each item that the figures allow, a number, with 0 for none: an `Option` would take twice the room
-    let mut marks = [0u32; 1024];
+    let mut marks = [0u32; Problem::ITEMS];
     let mut begin = 0;
-    for (k, end) in ends.iter().enumerate() {
+    for (k, end) in lists.ends.iter().enumerate() {
         let end = *end as usize;
-        check_option(limits, begin, end, &mut marks, k as u32 + 1, items, colours)?;
+        check_option(
+            limits,
+            begin,
+            end,
+            &mut marks,
+            k as u32 + 1,
+            lists.items,
+            lists.colours,
+        )?;
         begin = end;
     }
     Ok(())

@@ -1,41 +1,37 @@
-// The whole table.
-ghost use Rattle.std.specs.Prelude.{◌≡◌, ◌≤◌};
-ghost use Rattle.rules.specs.Sizing.{figures_of};
+// The checks behind those of the counts.
+ghost use Rattle.std.specs.Prelude.{◌≡◌, ℕ, false};
+ghost use Rattle.rules.specs.Problem.{Figures};
 ghost use Rattle.rules.specs.Rooms.{Room, Results};
 ghost use Rattle.rules.specs.Checks.{refusal_of};
-ghost use Rattle.rules.specs.Lent.{handed_in};
+ghost use Rattle.rules.specs.Lent.{handed_lists};
 ghost use Rattle.rules.specs.Refusals.{refusal_in};
 ghost use Rattle.checking.specs.Lent.{Lent};
+ghost use Rattle.checking.specs.Made.{Made};
 
 use crate::ends::check_ends;
 use crate::entries::{Limits, check_entries};
 use crate::room::{Lengths, short_results, short_room};
-use rules::lent::Given;
-use rules::problem::{Figures, Problem};
+use rules::lent::Lists;
+use rules::problem::Problem;
 use rules::refusal::{Check, Refusal, refuse_if};
 
-// The refusal of what is handed in, or that there is none, at figures that are at most the paper's own. `ragged` says that some list was handed
-// in as bytes that are no whole fours.
-pub fn refusal(f: Figures, ragged: bool, given: &Given<u32>, lent: Lengths) -> Result<(), Refusal>
-    requires { (f.items ≤ 1024) × (f.options ≤ 4096) × (f.entries ≤ 16384) }
-    ensures { (room : Room) (results : Results) → Lent lent room results
-        → refusal_in result ≡ refusal_of (figures_of f) ragged (handed_in given.now room results) }
+// The refusal of a problem that was made of the lists' counts, or that there is none: checks 16 to 22. Since its constructor made those before them, this
+// is what the whole table says.
+pub fn refusal(problem: Problem, lists: &Lists, lent: Lengths) -> Result<(), Refusal>
+    requires { (f : Figures) × Made f problem lists.now.items.now lists.now.colours.now lists.now.ends.now }
+    ensures { (f : Figures) (cap : ℕ) (room : Room) (results : Results) → Made f problem lists.now.items.now lists.now.colours.now lists.now.ends.now → Lent lent room results
+        → refusal_in result ≡ refusal_of f false (handed_lists problem cap lists.now room results) }
 {
-    let entries = given.items.len();
-    let options = given.ends.len();
-    // `|`, not `||`, here as in the other files: two tests and no branch
-    let differ = ragged | (entries != given.colours.len());
-    Problem::within(f, given.np, given.ns, options, entries, differ)?;
-    check_ends(given.ends, entries)?;
-    let n = given.np + given.ns;
-    let short = short_room(n as usize, entries, options, lent);
+    check_ends(lists.ends, problem.entries)?;
+    let n = problem.n();
+    let short = short_room(n, problem.entries, problem.options, lent);
     refuse_if(short, Check::ShortRoom, 0)?;
-    let short = short_results(n as usize, entries, options, lent);
+    let short = short_results(n, problem.entries, problem.options, lent);
     refuse_if(short, Check::ShortResult, 0)?;
     let limits = Limits {
-        np: given.np,
-        n,
-        colour: f.colour,
+        np: problem.np,
+        n: n as u32,
+        colour: Problem::COLOUR,
     };
-    check_entries(limits, given.items, given.colours, given.ends)
+    check_entries(limits, lists)
 }

@@ -8,6 +8,7 @@ use mathlib.Core.Bool.{Bool}
 use mathlib.Core.List.{List, Memᴰ as In}
 use mathlib.Core.Option.{Option, none, some}
 use Rattle.rules.specs.Lists.{written}
+use Rattle.rules.specs.Problem.{desk_figures}
 use Rattle.rules.specs.Rooms.{Results, Handed}
 use Rattle.rules.specs.Checks.{Refusal, refusal_of}
 use Rattle.rules.specs.Rounds.{Finding, reduced, infeasible}
@@ -17,7 +18,7 @@ use Rattle.theorems.proofs.Checks.Accept.{passed}
 use Rattle.theorems.proofs.Answers.ResultBounds.{ListsWithin, ResultWithin, result-bounds}
 use Rattle.words.specs.Bytes.{numbers_of, bytes_of}
 use Rattle.words.proofs.Numbers.{below_each, numbers-written}
-use Rattle.desk_call.specs.Desk.{desk_figures, numbers_in, bytes_in, any_ragged, handed_bytes, bytes_after, served, desk_outcome}
+use Rattle.desk_call.specs.Desk.{numbers_in, bytes_in, any_ragged, handed_bytes, bytes_after, served, desk_outcome}
 use Rattle.desk_call.proofs.OwnRoom.{found_of}
 
 -- numbers of four bytes each, written as bytes to the front of a byte list
@@ -25,7 +26,7 @@ front-as-numbers : (new old : List ℕ) → ((x : ℕ) → In x new → x < word
 front-as-numbers new old small = numbers-written new old (below_each word_bound new (omega arith) small)
 
 -- the lists of a result that keeps to the desk's figures
-fronts-as-numbers : {n M E : ℕ} → n ≤ 64 → M ≤ 256 → E ≤ 1024 → (new bytes : Results) → ListsWithin n M E 255 new
+fronts-as-numbers : {n M E : ℕ} → n ≤ desk_figures.items → M ≤ desk_figures.options → E ≤ desk_figures.entries → (new bytes : Results) → ListsWithin n M E desk_figures.colour new
     → numbers_in (fronts (bytes_in new) bytes) ≡ fronts new (numbers_in bytes)
 unfolding fronts
 fronts-as-numbers i o m new bytes L =

@@ -10,12 +10,12 @@ use mathlib.Core.Option.{Option, none, some}
 use lib.Dec.{T, ltb, eqb, nltb→le}
 use lib.ListN.{length}
 use Rattle.rules.specs.Lists.{or_else, mem}
-use Rattle.rules.specs.Problem.{Entry, entries_of, cut}
+use Rattle.rules.specs.Problem.{Entry, desk_figures, entries_of, cut}
 use Rattle.rules.specs.Rooms.{Results}
 use Rattle.rules.specs.Checks.{Refusal, refuse, refuse_at, bad_end, last_missed, check16, short_room, short_results, check_entry, check_option, check_options, refusal_of}
 use Rattle.theorems.proofs.Checks.Accept.{refuse-none}
 use Rattle.engine.specs.Call.{handed}
-use Rattle.desk_call.specs.Desk.{desk_figures, desk_room}
+use Rattle.desk_call.specs.Desk.{desk_room}
 use Rattle.desk_call.proofs.Thinning.{room-enough}
 
 -- no refusal, or another one
@@ -74,14 +74,18 @@ never-seventeen ragged np ns cap items colours ends results =
     let M = length ends in
     let E = length items in
     check-not 10 0 (eqb np 0) _ (λ u. absurd (omega arith)) λ a.
-    check-not 11 0 (ltb 64 n) _ (λ u. absurd (omega arith)) λ items-few.
+    check-not 11 0 (ltb desk_figures.items n) _ (λ u. absurd (omega arith)) λ items-few.
     check-not 12 0 (eqb M 0) _ (λ u. absurd (omega arith)) λ b.
-    check-not 13 0 (ltb 256 M) _ (λ u. absurd (omega arith)) λ options-few.
+    check-not 13 0 (ltb desk_figures.options M) _ (λ u. absurd (omega arith)) λ options-few.
     check-not 14 0 (ragged || not (eqb E (length colours))) _ (λ u. absurd (omega arith)) λ c.
-    check-not 15 0 (ltb 1024 E) _ (λ u. absurd (omega arith)) λ entries-few.
+    check-not 15 0 (ltb desk_figures.entries E) _ (λ u. absurd (omega arith)) λ entries-few.
     either-not (check16 E ends) _ (ends-not E ends) λ d.
     either-not (refuse 17 0 (short_room n E M desk_room)) _
     (passed-not 0 (short_room n E M desk_room)
-    (room-enough n E M (nltb→le 64 n (refuse-none 11 0 (ltb 64 n) items-few)) (nltb→le 1024 E (refuse-none 15 0 (ltb 1024 E) entries-few)) (nltb→le 256 M (refuse-none 13 0 (ltb 256 M) options-few)))) λ e.
+    (room-enough n E M
+    (nltb→le desk_figures.items n (refuse-none 11 0 (ltb desk_figures.items n) items-few))
+    (nltb→le desk_figures.entries E (refuse-none 15 0 (ltb desk_figures.entries E) entries-few))
+    (nltb→le desk_figures.options M (refuse-none 13 0 (ltb desk_figures.options M) options-few)))) λ e.
     check-not 18 0 (short_results n E M results) _ (λ u. absurd (omega arith)) λ f.
-    either-not (check_options np n 255 0 (cut 0 ends (entries_of items colours))) none (options-not np n 255 0 (cut 0 ends (entries_of items colours))) λ g. tt
+    let options = cut 0 ends (entries_of items colours) in
+    either-not (check_options np n desk_figures.colour 0 options) none (options-not np n desk_figures.colour 0 options) λ g. tt

@@ -10,7 +10,7 @@ use lib.ListN.{length, take, drop, replicate, length-append, length-map}
 use lib.Seq.{take-append_seam}
 use borrow.Author.Tests.{le-ltb}
 use Rattle.rules.specs.Lists.{written}
-use Rattle.rules.specs.Problem.{figures}
+use Rattle.rules.specs.Problem.{figures, desk_figures, nodes_at, marks_at}
 use Rattle.rules.specs.Rooms.{Results, Handed, result_lists}
 use Rattle.rules.specs.Checks.{Refusal, short_room, short_results, refusal_of}
 use Rattle.rules.specs.State.{State}
@@ -18,8 +18,9 @@ use Rattle.rules.specs.Rounds.{Finding, reduced, infeasible}
 use Rattle.rules.specs.Result.{kept_items, kept_options, primaries_of, secondaries_of, results_of}
 use Rattle.rules.specs.Paper.{Said, said_refused, said_infeasible, paper}
 use Rattle.rules.specs.Outcome.{Outcome, cleared, fronts, said_of, concluded}
-use Rattle.rules.specs.Lent.{handed_in}
-use Rattle.rules.specs.declared.lent.Given.{Given}
+use Rattle.rules.specs.Lent.{handed_lists}
+use Rattle.rules.specs.declared.lent.Lists.{Lists}
+use Rattle.rules.specs.declared.problem.Problem.{Problem}
 use Rattle.rules.specs.declared.answer.Answer.{Answer}
 use Rattle.rules.specs.declared.answer.Answer.TheVariants.{Reduced, Infeasible}
 use Rattle.theorems.proofs.Checks.Accept.{ChecksPassed, passed}
@@ -31,25 +32,26 @@ use Rattle.engine.specs.Call.{outcome}
 use Rattle.engine.proofs.Concluding.{spacious}
 use Rattle.checking.proofs.Grow.{figures-grow}
 use Rattle.words.proofs.Counting.{fours-fit}
-use Rattle.desk_call.specs.Desk.{desk_figures, desk_room, numbers_in, bytes_in, bytes_after, serving, served}
+use Rattle.desk_call.specs.Desk.{desk_room, numbers_in, bytes_in, bytes_after, serving, served}
 use Rattle.desk_call.specs.HandingBack.{firsts, handed_back, RoomFor, Handable}
 use Rattle.desk_call.proofs.OwnRoom.{found_of}
 
 -- the desk's own result lists, before the core writes to them
 abbrev pub blank : Results
-blank = result_lists (replicate 64 0) (replicate 256 0) (replicate 256 0) (replicate 1024 0) (replicate 1024 0)
+blank = result_lists (replicate desk_figures.items 0) (replicate desk_figures.options 0) (replicate desk_figures.options 0) (replicate desk_figures.entries 0)
+    (replicate desk_figures.entries 0)
 
 -- Room that is long enough
 
-pub room-enough : (n E M : ℕ) → n ≤ 64 → E ≤ 1024 → M ≤ 256 → T (not (short_room n E M desk_room))
+pub room-enough : (n E M : ℕ) → n ≤ desk_figures.items → E ≤ desk_figures.entries → M ≤ desk_figures.options → T (not (short_room n E M desk_room))
 unfolding short_room desk_room
 room-enough n E M a b c =
-    rw (le-ltb 1346 (n + 2 + E + M) (omega arith), le-ltb 65 (n + 1) (omega arith)) tt
+    rw (le-ltb (nodes_at desk_figures) (n + 2 + E + M) (omega arith), le-ltb (marks_at desk_figures) (n + 1) (omega arith)) tt
 
-results-enough : (n E M : ℕ) → n ≤ 64 → E ≤ 1024 → M ≤ 256 → T (not (short_results n E M blank))
+results-enough : (n E M : ℕ) → n ≤ desk_figures.items → E ≤ desk_figures.entries → M ≤ desk_figures.options → T (not (short_results n E M blank))
 unfolding short_results
 results-enough n E M a b c =
-    rw (le-ltb 64 n a, le-ltb 256 M c, le-ltb 1024 E b) tt
+    rw (le-ltb desk_figures.items n a, le-ltb desk_figures.options M c, le-ltb desk_figures.entries E b) tt
 
 -- What the call comes to, refused and found
 
@@ -73,12 +75,12 @@ front-there new old e = let a = length-append new (drop (length new) old) in rw 
 
 -- The call, once no check refuses
 
-module _ (given : Given ℕ) (bytes : Results) (e : refusal_of desk_figures false (handed_in given desk_room (numbers_in bytes)) ≡ none) where
+module _ (p : Problem) (cap : ℕ) (lists : Lists) (bytes : Results) (e : refusal_of desk_figures false (handed_lists p cap lists desk_room (numbers_in bytes)) ≡ none) where
   abbrev h : Handed
-  h = handed_in given desk_room (numbers_in bytes)
+  h = handed_lists p cap lists desk_room (numbers_in bytes)
 
   abbrev h' : Handed
-  h' = handed_in given desk_room blank
+  h' = handed_lists p cap lists desk_room blank
 
   P : ChecksPassed desk_figures h
   P = passed desk_figures false h e

@@ -3,7 +3,7 @@
 use Rattle.std.specs.Prelude.{ℕ, ◌+◌, Bool, List, [], ◌∷◌, replicate, pos}
 use Rattle.std.proofs.Math.Option.{Option, none, some}
 use Rattle.rules.specs.Lists.{any}
-use Rattle.rules.specs.Problem.{Figures, problem_of}
+use Rattle.rules.specs.Problem.{desk_figures, nodes_at, marks_at, problem_of}
 use Rattle.rules.specs.Rooms.{Room, Results, Handed}
 use Rattle.rules.specs.Checks.{Refusal, refusal_of}
 use Rattle.rules.specs.Rounds.{Finding, reduced, infeasible, reduce}
@@ -12,13 +12,11 @@ use Rattle.rules.specs.Paper.{Said}
 use Rattle.rules.specs.Outcome.{fronts, outcome_at}
 use Rattle.words.specs.Bytes.{numbers_of, bytes_of, ragged}
 
--- There 64 items, 256 options and 1,024 entries replace the figures in 11, 13 and 15.
-abbrev pub desk_figures : Figures
-desk_figures = record { items = 64; options = 256; entries = 1024; colour = 255 }
-
 -- This face has working room of its own: n + 2 + E + M and n + 1 numbers, at its figures.
 unfoldable pub desk_room : Room
-desk_room = record { heads = replicate 1346 (pos 0); up = replicate 1346 0; down = replicate 1346 0; tints = replicate 1346 0; marks = replicate 65 0 }
+desk_room =
+    let nodes = nodes_at desk_figures in
+    record { heads = replicate nodes (pos 0); up = replicate nodes 0; down = replicate nodes 0; tints = replicate nodes 0; marks = replicate (marks_at desk_figures) 0 }
 
 -- five byte lists as lists of numbers, four bytes to a number, and back
 abbrev pub numbers_in : Results → Results

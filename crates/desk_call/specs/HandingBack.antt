@@ -1,5 +1,6 @@
 -- The fronts of number lists, written to byte lists: as many numbers as the answer counts. Assumes nothing.
 use Rattle.std.specs.Prelude.{ℕ, ◌+◌, ◌*◌, ◌≤◌, length, take}
+use Rattle.rules.specs.Problem.{desk_figures}
 use Rattle.rules.specs.Rooms.{Results}
 use Rattle.rules.specs.Outcome.{fronts}
 use Rattle.rules.specs.declared.answer.Answer.{Answer}
@@ -23,7 +24,7 @@ handed_back (Refused refusal) words bytes = bytes
 
 -- so many numbers are there, and there is room for their bytes
 pub record RoomFor (items options entries : ℕ) (words bytes : Results) : Type 0 where
-  pub few : items ≤ 64
+  pub few : items ≤ desk_figures.items
   pub kept : items ≤ length words.kept
   pub ends : options ≤ length words.ends
   pub numbers : options ≤ length words.numbers

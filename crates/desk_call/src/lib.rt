@@ -3,6 +3,6 @@
 #![tactic(auto)]
 
 pub mod hand_back;
-pub mod reduce;
 pub mod own_room;
+pub mod reduce;
 pub mod thin;

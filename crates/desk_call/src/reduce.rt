@@ -1,13 +1,15 @@
 // The desk's call over bytes.
-ghost use Rattle.std.specs.Prelude.{◌≡◌, ◌≤◌, false, length};
+ghost use Rattle.std.specs.Prelude.{◌≡◌, false};
+ghost use Rattle.rules.specs.Problem.{desk_figures};
 ghost use Rattle.rules.specs.Lent.{SameResults, results_in};
 ghost use Rattle.rules.specs.Paper.{paper};
 ghost use Rattle.words.specs.Bytes.{numbers_of};
+ghost use Rattle.checking.specs.Made.{Made};
 ghost use Rattle.desk_call.specs.Desk.{any_ragged, handed_bytes, serving, served, desk_outcome};
 
-use crate::thin::{desk_figures, thin};
+use crate::thin::thin;
 use rules::answer::Answer;
-use rules::lent::{Given, Results};
+use rules::lent::{Given, Lists, Results};
 use rules::problem::Problem;
 use words::{count, read_words};
 
@@ -27,30 +29,27 @@ pub fn any_ragged(given: &Given<u8>, results: &Results<u8>) -> bool
     ])
 }
 
-// Reads the three lists of the problem, whose counts are within the figures.
-pub fn read(given: &Given<u8>, results: &mut Results<u8>) -> Answer
-    requires { (length (numbers_of given.now.items.now) ≤ 1024) × (length (numbers_of given.now.colours.now) ≤ 1024) × (length (numbers_of given.now.ends.now) ≤ 256) }
+// Reads the three lists of a problem that was made of their counts.
+pub fn read(problem: Problem, given: &Given<u8>, results: &mut Results<u8>) -> Answer
+    requires { Made desk_figures problem (numbers_of given.now.items.now) (numbers_of given.now.colours.now) (numbers_of given.now.ends.now) }
     ensures lists { SameResults results.old results.new }
     ensures served { serving (paper result) (results_in results.new)
-        ≡ served false (handed_bytes given.now.np given.now.ns given.now.cap given.now.items.now given.now.colours.now given.now.ends.now (results_in results.old))
+        ≡ served false (handed_bytes problem.np problem.ns given.now.cap given.now.items.now given.now.colours.now given.now.ends.now (results_in results.old))
         (results_in results.old) }
 {
     // fixed memory: lists as long as the figures allow, read as far as they are filled
-    let mut items = [0u32; 1024];
-    let mut colours = [0u32; 1024];
-    let mut ends = [0u32; 256];
+    let mut items = [0u32; Problem::DESK_ENTRIES];
+    let mut colours = [0u32; Problem::DESK_ENTRIES];
+    let mut ends = [0u32; Problem::DESK_OPTIONS];
     read_words(given.items, &mut items);
     read_words(given.colours, &mut colours);
     read_words(given.ends, &mut ends);
-    let numbers = Given {
-        np: given.np,
-        ns: given.ns,
-        cap: given.cap,
-        items: &items[..count(given.items)],
-        colours: &colours[..count(given.colours)],
-        ends: &ends[..count(given.ends)],
+    let lists = Lists {
+        items: &items[..problem.entries],
+        colours: &colours[..problem.entries],
+        ends: &ends[..problem.options],
     };
-    thin(&numbers, results)
+    thin(problem, given.cap, &lists, results)
 }
 
 // Thins out a problem handed in as bytes. Counts are checked before anything is read: checks 10 to 15, with 14 for a ragged list in its turn.
@@ -60,18 +59,12 @@ pub fn reduce(given: &Given<u8>, results: &mut Results<u8>) -> Answer
         ≡ desk_outcome given.now.np given.now.ns given.now.cap given.now.items.now given.now.colours.now given.now.ends.now (results_in results.old) }
 {
     let ragged = any_ragged(given, results);
+    let options = count(given.ends);
     let entries = count(given.items);
+    // `|`, not `||`: two tests and no branch
     let differ = ragged | (entries != count(given.colours));
-    let counts = Problem::within(
-        desk_figures(),
-        given.np,
-        given.ns,
-        count(given.ends),
-        entries,
-        differ,
-    );
-    if let Err(refused) = counts {
-        return Answer::Refused(refused);
+    match Problem::at_desk(given.np, given.ns, options, entries, differ) {
+        Err(refused) => Answer::Refused(refused),
+        Ok(problem) => read(problem, given, results),
     }
-    read(given, results)
 }

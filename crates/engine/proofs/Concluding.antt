@@ -90,8 +90,9 @@ module _ {h : Handed} (t : TakenIn h) where
   pub call-small : h.np + h.ns < node_bound
   call-small = omega (arith, P.items)
 
-  pub call-buildable : Buildable figures h.np h.ns (h.np + h.ns) h.items h.colours h.ends h.room.heads h.room.up h.room.down h.room.tints h.room.marks
-  call-buildable = buildable figures (omega arith) h false e
+  pub call-buildable : {n : ℕ} → n ≡ h.np + h.ns
+      → Buildable figures h.np h.ns n h.items h.colours h.ends h.room.heads h.room.up h.room.down h.room.tints h.room.marks
+  call-buildable k = rw k (buildable figures (omega arith) h false e)
 
   -- the rounds stop at an item: no result is written
   pub call-infeasible : {item cause round number : ℕ} {room : Room} → reduce a h.cap ≡ infeasible item cause round → number ≡ cause → room ≡ cleared h.room

@@ -11,26 +11,27 @@ use building::init_links::init_links;
 use links::nodes::Nodes;
 use preproc::rounds::{Done, Infeasible, rounds, uncovered};
 use rules::answer::Cause;
-use rules::lent::Given;
+use rules::lent::Lists;
 
 // Builds the nodes; a primary item in no option is cause 1, in round 0, whatever the cap; and else the rounds run.
 pub fn run(
     nodes: &mut Nodes,
     tints: &mut [u32],
     marks: &mut [u32],
-    given: &Given<u32>,
+    cap: u32,
+    lists: &Lists,
 ) -> Result<Done, Infeasible>
-    requires { (f : Figures) × (ns : ℕ) × in_nodes (Buildable f nodes.old.np ns nodes.old.n given.now.items.now given.now.colours.now given.now.ends.now)
+    requires { (f : Figures) × (ns : ℕ) × in_nodes (Buildable f nodes.old.np ns nodes.old.n lists.now.items.now lists.now.colours.now lists.now.ends.now)
         nodes.old tints.old marks.old }
     ensures nodes { SameNodes nodes.old nodes.new }
     ensures found { (f : Figures) (ns : ℕ)
-        → in_nodes (Buildable f nodes.old.np ns nodes.old.n given.now.items.now given.now.colours.now given.now.ends.now)
+        → in_nodes (Buildable f nodes.old.np ns nodes.old.n lists.now.items.now lists.now.colours.now lists.now.ends.now)
         nodes.old tints.old marks.old
-        → in_nodes (Ended (plan_of (problem_of nodes.old.np ns given.now.items.now given.now.colours.now given.now.ends.now))
-        (reduce_of (problem_of nodes.old.np ns given.now.items.now given.now.colours.now given.now.ends.now) given.now.cap) result)
+        → in_nodes (Ended (plan_of (problem_of nodes.old.np ns lists.now.items.now lists.now.colours.now lists.now.ends.now))
+        (reduce_of (problem_of nodes.old.np ns lists.now.items.now lists.now.colours.now lists.now.ends.now) cap) result)
         nodes.new tints.new marks.new }
 {
-    init_links(nodes, tints, marks, given);
+    init_links(nodes, tints, marks, lists);
     if let Some(item) = uncovered(nodes) {
         return Err(Infeasible {
             item,
@@ -38,5 +39,5 @@ pub fn run(
             round: 0,
         });
     }
-    rounds(nodes, tints, marks, given.cap)
+    rounds(nodes, tints, marks, cap)
 }

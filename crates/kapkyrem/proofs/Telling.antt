@@ -3,13 +3,13 @@ use Prim.Native.Nat.{ℕ}
 use native.Mathlib.Omega.{arith}
 use mathlib.Core.Path.{◌≡◌, ap, ◌∙◌}
 use mathlib.Core.Bool.{Bool, false}
-use Rattle.rules.specs.Problem.{figures}
+use Rattle.rules.specs.Problem.{figures, desk_figures}
 use Rattle.rules.specs.Rooms.{Room, Results, Handed}
 use Rattle.rules.specs.Paper.{paper}
 use Rattle.rules.specs.Outcome.{Outcome, outcome_of}
 use Rattle.rules.specs.declared.answer.Answer.{Answer}
 use Rattle.engine.specs.Call.{outcome}
-use Rattle.desk_call.specs.Desk.{desk_figures, Served, serving, served}
+use Rattle.desk_call.specs.Desk.{Served, serving, served}
 use Rattle.kapkyrem.specs.Packed.{packed_desk, packed_lists, Fits}
 use mathlib.Core.List.{List}
 use Rattle.rules.specs.Renumber.{Renumbered}

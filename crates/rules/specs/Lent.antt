@@ -2,7 +2,9 @@
 -- lists, whatever it writes in them. Assumes nothing.
 use Rattle.std.specs.Prelude.{ℕ, ◌≡◌, length}
 use Rattle.rules.specs.Rooms.{Room as PaperRoom, Results as PaperResults, Handed}
+use Rattle.rules.specs.declared.problem.Problem.{Problem}
 use Rattle.rules.specs.declared.lent.Given.{Given}
+use Rattle.rules.specs.declared.lent.Lists.{Lists}
 use Rattle.rules.specs.declared.lent.Room.{Room}
 use Rattle.rules.specs.declared.lent.Results.{Results}
 
@@ -21,6 +23,19 @@ handed_in p room results = record {
   items = p.items.now;
   colours = p.colours.now;
   ends = p.ends.now;
+  room = room;
+  results = results;
+}
+
+-- the same, of a problem and its lists
+abbrev pub handed_lists : Problem → ℕ → Lists → PaperRoom → PaperResults → Handed
+handed_lists p cap lists room results = record {
+  np = p.np;
+  ns = p.ns;
+  cap = cap;
+  items = lists.items.now;
+  colours = lists.colours.now;
+  ends = lists.ends.now;
   room = room;
   results = results;
 }

@@ -24,6 +24,17 @@ pub record Figures : Type 0 where
 abbrev pub figures : Figures
 figures = record { items = 1024; options = 4096; entries = 16384; colour = 255 }
 
+-- There 64 items, 256 options and 1,024 entries replace the figures in 11, 13 and 15: the desk's, with the colours of the others.
+abbrev pub desk_figures : Figures
+desk_figures = record { items = 64; options = 256; entries = 1024; colour = figures.colour }
+
+-- What a problem at the very figures asks for: n + 2 + E + M numbers in each list of nodes, and n + 1 marks.
+abbrev pub nodes_at : Figures → ℕ
+nodes_at f = f.items + 2 + f.entries + f.options
+
+abbrev pub marks_at : Figures → ℕ
+marks_at f = f.items + 1
+
 -- Entries are two lists of equal length, item and colour.
 abbrev pub entries_of : List ℕ → List ℕ → List Entry
 entries_of [] cs = []

@@ -13,6 +13,14 @@ pub struct Given<'a, T> {
     pub ends: &'a [T],
 }
 
+// The lists of a problem alone, of numbers: what the checks and the core take beside the problem that was made of their counts.
+#[derive(Clone, Copy)]
+pub struct Lists<'a> {
+    pub items: &'a [u32],
+    pub colours: &'a [u32],
+    pub ends: &'a [u32],
+}
+
 // The working lists, in which the nodes are built: four of a number for each node, and one of a mark for each item.
 #[derive(Drop)]
 pub struct Room<'a> {

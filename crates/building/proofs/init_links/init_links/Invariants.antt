@@ -9,7 +9,7 @@ use Rattle.building.proofs.init_links.init_links.Given as goal
 
 abbrev pub invariant-loop-k : goal.invariant-loop-k
 invariant-loop-k l =
-    let g = l.given in
+    let g = l.lists in
     SameNodes l.fn.nodes l.nodes
     × (l.k < length g.ends.now → (l.begin ≤ at g.ends.now l.k) × (at g.ends.now l.k ≤ length g.items.now) × (at g.ends.now l.k ≤ length g.colours.now))
     × ((f : Figures) (ns : ℕ)

@@ -22,24 +22,25 @@ zeros c =
     c.clear_room.ensures.cleared ∙ ap cleared (left c) ∙ cleared-alike _ _ _ _ _ _ _ _ _ _ n.heads-long n.up-long n.down-long c.run.auto.tints c.run.auto.marks
 
 pub run-requires : goal.run-requires
-run-requires c = let e = takes _ c.requires in (_, _, call-buildable e)
+run-requires c = let e = takes _ c.requires in (_, _, call-buildable e c.n-n.ensures)
 
 pub report-answer-requires : goal.report-answer-requires
 report-answer-requires c =
     let e = takes _ c.requires in
     let n = c.run.ensures.nodes in
-    let o = (rw c.in-Ok.is at (c.run.ensures.found _ _ (call-buildable e))).goes in
-    (o.2.ground, call-reported e c.run.new.nodes n.np n.n o.1 o.2)
+    let o = (rw c.in-Ok.is at (c.run.ensures.found _ _ (call-buildable e c.n-n.ensures))).goes in
+    (o.2.ground, call-reported e c.run.new.nodes n.np (n.n ∙ c.n-n.ensures) o.1 o.2)
 
 pub returns-clause-outcome : goal.returns-clause-outcome
 returns-clause-outcome c =
     let e = takes _ c.requires in
     let n = c.run.ensures.nodes in
-    let f = c.run.ensures.found _ _ (call-buildable e) in
+    let f = c.run.ensures.found _ _ (call-buildable e c.n-n.ensures) in
     elim c.match-run.branch [
       | in-Ok w ↦
           let o = (rw w.in-Ok.is at f).goes in
           rw (w.answer-is, w.results-is)
-          (call-reduced e c.run.new.nodes n.np n.n o.1 o.2 (w.report-answer.ensures.reported o.2.ground (call-reported e c.run.new.nodes n.np n.n o.1 o.2)) (zeros c))
+          (call-reduced e c.run.new.nodes n.np (n.n ∙ c.n-n.ensures) o.1 o.2
+          (w.report-answer.ensures.reported o.2.ground (call-reported e c.run.new.nodes n.np (n.n ∙ c.n-n.ensures) o.1 o.2)) (zeros c))
       | in-Err w ↦ rw (w.answer-is, w.results-is) (call-infeasible e (rw w.in-Err.is at f).stops refl (zeros c))
     ]
