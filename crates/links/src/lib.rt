@@ -6,7 +6,7 @@
 //
 // Every number that the lists hold is below 1048576, 2 to the 20: so a contract says it as it is, for a word in its place would hide the number.
 //
-// The methods of this crate are the leaves that the walks above it call: each has a `requires`, and none is a public call.
+// The methods and functions of this crate are the leaves that the walks above it call: each but `column_of` has a `requires`, and none is a public call.
 #![tactic(auto)]
 
 pub mod column;

@@ -74,8 +74,8 @@ pub fn clear_column(nodes: &mut Nodes, c: usize)
     nodes.set_head(c, 0);
 }
 
-// Removes item c (its column), redundant for p: options that hold c lose it where they hold p, and are deleted where not, until a primary column is
-// emptied.
+// Removes item c (its column), redundant for p: options that hold c lose it where they hold p, and are deleted where not, each to its end, until a
+// primary item is emptied.
 pub fn remove_item(nodes: &mut Nodes, c: usize, p: usize) -> Result<(), Emptied>
     requires { (g : Ground) × in_nodes (Removing g c p nodes.old.start) nodes.old }
     ensures nodes { SameNodes nodes.old nodes.new }
