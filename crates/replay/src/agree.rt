@@ -3,6 +3,7 @@
 use lines::parts::front;
 use renumbering::lists::crate_numbers;
 use rules::answer::Answer;
+use rules::problem::Problem;
 
 // The five lists of a result, to be read: `Results` lends them to be written, and is no `Copy`.
 #[derive(Clone, Copy)]
@@ -23,7 +24,7 @@ fn behind_lists<'a>(stored: &'a [u32], lists: Lists, primaries: u32) -> Option<&
         .strip_prefix(lists.items)?
         .strip_prefix(lists.colours)?;
     // fixed memory: as much as a stored answer takes
-    let mut out = [0u32; 1024];
+    let mut out = [0u32; Problem::DESK_ENTRIES];
     crate_numbers(lists.kept, primaries, lists.items, &mut out).ok()?;
     rest.strip_prefix(front(&out, lists.items.len()))
 }

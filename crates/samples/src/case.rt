@@ -5,19 +5,25 @@ use crate::run::run;
 use checking::room::Lengths;
 use lines::{numbers, say};
 use rules::lent::Given;
+use rules::problem::Problem;
+
+// The longest lists of a case: one more than the figures take.
+const ENTRIES: usize = Problem::ENTRIES + 1;
+
+const OPTIONS: usize = Problem::OPTIONS + 1;
 
 // What a problem at the very figures asks for: more than any other does.
 const WHOLE: Lengths = Lengths {
-    heads: 21506,
-    up: 21506,
-    down: 21506,
-    tints: 21506,
-    marks: 1025,
-    kept: 1024,
-    ends: 4096,
-    numbers: 4096,
-    items: 16384,
-    colours: 16384,
+    heads: Problem::NODES,
+    up: Problem::NODES,
+    down: Problem::NODES,
+    tints: Problem::NODES,
+    marks: Problem::MARKS,
+    kept: Problem::ITEMS,
+    ends: Problem::OPTIONS,
+    numbers: Problem::OPTIONS,
+    items: Problem::ENTRIES,
+    colours: Problem::ENTRIES,
 };
 
 // The lengths of the lists that are lent, in the order of the call.
@@ -55,9 +61,9 @@ fn lengths_of(t: &[u8]) -> Lengths {
 // The problem that four fields write, and its run.
 fn problem(counts: &[u8], items: &[u8], colours: &[u8], ends: &[u8], lent: Lengths) {
     // fixed memory: as long as any case
-    let mut i = [0u32; 16385];
-    let mut c = [0u32; 16385];
-    let mut e = [0u32; 4097];
+    let mut i = [0u32; ENTRIES];
+    let mut c = [0u32; ENTRIES];
+    let mut e = [0u32; OPTIONS];
     let [np, ns, cap] = numbers::row::<3>(counts);
     let given = Given {
         np,

@@ -1,4 +1,5 @@
 // The ten lists that a call is lent, as long as the figures ask for; before a call they hold a pattern.
+use rules::problem::Problem;
 
 // What the working lists hold.
 pub(crate) const WORK: u32 = 70007;
@@ -11,21 +12,21 @@ pub(crate) const PATTERN: u32 = 90009;
 // The working lists.
 #[derive(Drop)]
 pub(crate) struct Room {
-    pub heads: [i32; 21506],
-    pub up: [u32; 21506],
-    pub down: [u32; 21506],
-    pub tints: [u32; 21506],
-    pub marks: [u32; 1025],
+    pub heads: [i32; Problem::NODES],
+    pub up: [u32; Problem::NODES],
+    pub down: [u32; Problem::NODES],
+    pub tints: [u32; Problem::NODES],
+    pub marks: [u32; Problem::MARKS],
 }
 
 impl Room {
     pub(crate) fn new() -> Room {
         Room {
-            heads: [SIGNED_WORK; 21506],
-            up: [WORK; 21506],
-            down: [WORK; 21506],
-            tints: [WORK; 21506],
-            marks: [WORK; 1025],
+            heads: [SIGNED_WORK; Problem::NODES],
+            up: [WORK; Problem::NODES],
+            down: [WORK; Problem::NODES],
+            tints: [WORK; Problem::NODES],
+            marks: [WORK; Problem::MARKS],
         }
     }
 }
@@ -33,21 +34,21 @@ impl Room {
 // The lists of the result.
 #[derive(Drop)]
 pub(crate) struct Results {
-    pub kept: [u32; 1024],
-    pub ends: [u32; 4096],
-    pub numbers: [u32; 4096],
-    pub items: [u32; 16384],
-    pub colours: [u32; 16384],
+    pub kept: [u32; Problem::ITEMS],
+    pub ends: [u32; Problem::OPTIONS],
+    pub numbers: [u32; Problem::OPTIONS],
+    pub items: [u32; Problem::ENTRIES],
+    pub colours: [u32; Problem::ENTRIES],
 }
 
 impl Results {
     pub(crate) fn new() -> Results {
         Results {
-            kept: [PATTERN; 1024],
-            ends: [PATTERN; 4096],
-            numbers: [PATTERN; 4096],
-            items: [PATTERN; 16384],
-            colours: [PATTERN; 16384],
+            kept: [PATTERN; Problem::ITEMS],
+            ends: [PATTERN; Problem::OPTIONS],
+            numbers: [PATTERN; Problem::OPTIONS],
+            items: [PATTERN; Problem::ENTRIES],
+            colours: [PATTERN; Problem::ENTRIES],
         }
     }
 }

@@ -2,6 +2,12 @@
 // and a number n. The word's first letter counts.
 use lines::numbers;
 use lines::parts::front;
+use rules::problem::Problem;
+
+// A quarter of the items, and the last option, of a problem at the very figures.
+const QUARTER: u32 = (Problem::ITEMS / 4) as u32;
+
+const LAST: u32 = (Problem::OPTIONS - 1) as u32;
 
 // A rule: which number stands at place k, from 0.
 #[derive(Clone, Copy, PartialEq, Eq, Debug)]
@@ -12,11 +18,11 @@ enum Rule {
     Count,
     // `same`, or any other word: n
     Same,
-    // `fours`: the items of options of four entries: option j holds j % 256, and that plus 256, 512 and 768
+    // `fours`: the items of options of four entries, one in each quarter of all items: option j has the j-th there, and begins again behind the last
     Fours,
     // `tints`: the colours of those: none on the first, n on the others
     Tints,
-    // `ends`: the ends of those; n from the 4,096th on
+    // `ends`: the ends of those; n from the last on that the figures take
     Ends,
 }
 
@@ -39,9 +45,9 @@ impl Rule {
             Rule::Up => k,
             Rule::Count => k.wrapping_add(1),
             Rule::Same => n,
-            Rule::Fours => k % 4 * 256 + k / 4 % 256,
+            Rule::Fours => k % 4 * QUARTER + k / 4 % QUARTER,
             Rule::Tints => if k % 4 == 0 { 0 } else { n },
-            Rule::Ends => if k < 4095 { 4 * k + 4 } else { n },
+            Rule::Ends => if k < LAST { 4 * k + 4 } else { n },
         }
     }
 

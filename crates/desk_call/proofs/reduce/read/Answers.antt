@@ -18,10 +18,16 @@ pub thin-requires : goal.thin-requires
 thin-requires c =
     let M = c.requires in
     let w = sizes _ false _ _ _ _ _ M.taken in
-    rw (read-back _ _ c.read_words.ensures M.entries, read-back _ _ c.read_words-2.ensures (M.entries ∙ w.lengths), read-back _ _ c.read_words-3.ensures M.options) M
+    let items = read-back _ _ c.read_words.ensures M.entries in
+    let colours = read-back _ _ c.read_words-2.ensures (M.entries ∙ w.lengths) in
+    let ends = read-back _ _ c.read_words-3.ensures M.options in
+    rw (items, colours, ends) M
 
 pub returns-clause-served : goal.returns-clause-served
 returns-clause-served c =
     let M = c.requires in
     let w = sizes _ false _ _ _ _ _ M.taken in
-    rw (read-back _ _ c.read_words.ensures M.entries, read-back _ _ c.read_words-2.ensures (M.entries ∙ w.lengths), read-back _ _ c.read_words-3.ensures M.options) at c.thin.ensures.served
+    let items = read-back _ _ c.read_words.ensures M.entries in
+    let colours = read-back _ _ c.read_words-2.ensures (M.entries ∙ w.lengths) in
+    let ends = read-back _ _ c.read_words-3.ensures M.options in
+    rw (items, colours, ends) at c.thin.ensures.served

@@ -11,7 +11,8 @@ use Rattle.desk_call.proofs.thin.thin.Goals as goal
 use Rattle.desk_call.proofs.thin.thin.Goals.{In_default}
 
 -- behind the checks nothing is refused
-passed-checks : (c : In_default) → refusal_of desk_figures false (handed_lists c.args.problem c.args.cap c.args.lists.now desk_room (numbers_in (results_in c.args.results.now))) ≡ none
+passed-checks : (c : In_default)
+    → refusal_of desk_figures false (handed_lists c.args.problem c.args.cap c.args.lists.now desk_room (numbers_in (results_in c.args.results.now))) ≡ none
 passed-checks c = passes (c.refusal-checked.ensures desk_figures c.args.cap _ _ c.requires c.lengths.ensures) c.in_default.is
 
 pub refusal-checked-requires : goal.refusal-checked-requires

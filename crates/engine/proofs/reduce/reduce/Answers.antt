@@ -39,8 +39,8 @@ returns-clause-outcome c =
     elim c.match-run.branch [
       | in-Ok w ↦
           let o = (rw w.in-Ok.is at f).goes in
-          rw (w.answer-is, w.results-is)
-          (call-reduced e c.run.new.nodes n.np (n.n ∙ c.n-n.ensures) o.1 o.2
-          (w.report-answer.ensures.reported o.2.ground (call-reported e c.run.new.nodes n.np (n.n ∙ c.n-n.ensures) o.1 o.2)) (zeros c))
+          let items = n.n ∙ c.n-n.ensures in
+          let told = w.report-answer.ensures.reported o.2.ground (call-reported e c.run.new.nodes n.np items o.1 o.2) in
+          rw (w.answer-is, w.results-is) (call-reduced e c.run.new.nodes n.np items o.1 o.2 told (zeros c))
       | in-Err w ↦ rw (w.answer-is, w.results-is) (call-infeasible e (rw w.in-Err.is at f).stops refl (zeros c))
     ]
