@@ -164,9 +164,14 @@ module _ {h : Ground} {tints marks : List ℕ} {r s np : ℕ} {heads : List ℤ}
         rival = m.rival;
         from = omega (arith, m.from);
         till = omega (arith, inside an_item);
-        fresh = subst (λ (xs : List ℕ). Fresh (ground_to h r q p) xs) (sym (walked_more an_item)) (fresh-one-more (ground_to h r q p) (walked (ground_to h r q p) p qq) qq to-tidy m.fresh (inner-within an_item));
+        fresh = subst (λ (xs : List ℕ). Fresh (ground_to h r q p) xs) (sym (walked_more an_item))
+            (fresh-one-more (ground_to h r q p) (walked (ground_to h r q p) p qq) qq to-tidy m.fresh (inner-within an_item));
         alive = alive-less h marks r np heads i m.alive inner-fewer.0 n;
-        holds = rw item-is (subst (λ (xs : List ℕ). Holds (taken (ground_to h r q p) xs) (set heads (h.plan.col qq) (pos (item_of (head heads (h.plan.col qq)) - 1))) (cut_up up down qq) (cut_down up down qq)) (sym (walked_more an_item)) (take_out (ground_to h r q p) (walked (ground_to h r q p) p qq) qq to-tidy m.fresh (inner-within an_item) m.holds));
+        holds = rw item-is
+            (subst (λ (xs : List ℕ).
+            Holds (taken (ground_to h r q p) xs) (set heads (h.plan.col qq) (pos (item_of (head heads (h.plan.col qq)) - 1))) (cut_up up down qq) (cut_down up down qq))
+            (sym (walked_more an_item))
+            (take_out (ground_to h r q p) (walked (ground_to h r q p) p qq) qq to-tidy m.fresh (inner-within an_item) m.holds));
       }
 
       -- or the walk stops before it

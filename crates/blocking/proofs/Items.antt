@@ -22,7 +22,7 @@ use Rattle.links.proofs.Rows.{At, walk_begins, walked_none}
 use Rattle.blocking.specs.Forward.{Test, Stage, out_at, ground_at, Outer, AtItem, rivals_to, Middle}
 use Rattle.links.proofs.Taken.{taken-header}
 use Rattle.links.proofs.Descending.{Stand}
-use Rattle.links.proofs.Passing.{rival-inside, Spared, spared-none, gathered-none, down-stand, down-gathered}
+use Rattle.links.proofs.Passing.{rival-inside, KeptColumn, kept-none, gathered-none, down-stand, down-gathered}
 use Rattle.links.proofs.Onward as Onward
 use Rattle.links.proofs.Onward.{Underway}
 use Rattle.blocking.proofs.Stages.{stage-none, item-entry, ground-tidy}
@@ -52,10 +52,6 @@ module _ {h : Ground} {tints marks : List ℕ} {r s np : ℕ} {heads : List ℤ}
 
     stands : Underway h (out_at h r q) r q heads up down
     stands = record { tidy = t; fresh = m.stage.fresh; entry = e; place = record { from = m.from; till = m.till }; holds = m.holds }
-
-    -- it is within the lists
-    pub outer-in : (q < length heads) × (q < length up)
-    outer-in = Onward.inside stands
 
     module _ (d : q ≢ r) where
       -- over a head without an item
@@ -118,8 +114,8 @@ module _ {h : Ground} {tints marks : List ℕ} {r s np : ℕ} {heads : List ℤ}
         col-is : h.plan.col (h.plan.col q) ≡ h.plan.col q
         col-is = t.planned.header (h.plan.col q) header
 
-        spared : Spared (ground_at h r q) (h.plan.col q) []
-        spared = spared-none g-tidy header
+        column : KeptColumn (ground_at h r q) (h.plan.col q) []
+        column = kept-none g-tidy header
 
         stand : Stand (ground_at h r q) (h.plan.col q) (h.plan.col q)
         stand = record { on = header-on; col = col-is }
@@ -129,8 +125,8 @@ module _ {h : Ground} {tints marks : List ℕ} {r s np : ℕ} {heads : List ℤ}
             let b : p ≡ at (taken (ground_at h r q) []).down (h.plan.col q) = a ∙ ap (at down) item-is ∙ ap (λ (v : List ℕ). at v (h.plan.col q)) m.holds.down-are in
             record {
               item = outer-item;
-              on = rw b (down-stand spared (h.plan.col q) stand).on;
-              col = rw b (down-stand spared (h.plan.col q) stand).col;
+              on = rw b (down-stand column (h.plan.col q) stand).on;
+              col = rw b (down-stand column (h.plan.col q) stand).col;
               alive = m.alive;
               holds = subst (λ (xs : List ℕ). Holds (taken (ground_at h r q) xs) heads up down) (sym (nothing p b)) (record { heads-are = m.holds.heads-are; up-are = m.holds.up-are; down-are = m.holds.down-are });
             }
@@ -143,5 +139,5 @@ module _ {h : Ground} {tints marks : List ℕ} {r s np : ℕ} {heads : List ℤ}
 
             nothing : (p : ℕ) → p ≡ at (taken (ground_at h r q) []).down (h.plan.col q) → rivals_to h r q (reach h.plan p) ≡ []
             nothing p b =
-                rw b (down-gathered spared (h.plan.col q) stand rival inside
-                ∙ gathered-none g-tidy rival inside (h.plan.col q + 1) (omega (arith, header-before h.plan t.planned (h.plan.col q) header)))
+                rw b (down-gathered column (h.plan.col q) stand rival inside
+                ∙ gathered-none g-tidy (h.plan.col q) rival inside (h.plan.col q + 1) (omega (arith, header-before h.plan t.planned (h.plan.col q) header)))

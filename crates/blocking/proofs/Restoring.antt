@@ -83,7 +83,3 @@ module _ {h : Ground} {tints marks : List ℕ} {r s np : ℕ} {heads : List ℤ}
   -- then the items before q
   pub stopped-behind : {heads' : List ℤ} {up' down' : List ℕ} → Holds (ground_at h r q) heads' up' down' → Behind h tints (q - 1) r s heads' up' down'
   stopped-behind l = to-behind q I.item.test I.item.from (omega (arith, I.item.till)) I.item.stage.fresh (holds-taken h (out_at h r q) l)
-
--- Two sets of lists that one ground has are the same.
-pub lists-same : {h : Ground} {heads heads' : List ℤ} {up up' down down' : List ℕ} → Holds h heads up down → Holds h heads' up' down' → (heads' ≡ heads) × (up' ≡ up) × (down' ≡ down)
-lists-same a b = (b.heads-are ∙ sym a.heads-are, b.up-are ∙ sym a.up-are, b.down-are ∙ sym a.down-are)

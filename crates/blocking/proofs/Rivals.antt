@@ -22,7 +22,7 @@ use Rattle.links.proofs.Gathering.{gather_none}
 use Rattle.links.proofs.Descending.{Stand, on-entry, reach, reach-past, reach-at, left, step_less}
 use Rattle.blocking.specs.Forward.{Stage, Alive, out_at, ground_at, Outer, AtItem, rivals_to, ground_to, Middle, Inner}
 use Rattle.links.proofs.Taken.{after-tidy, after_more}
-use Rattle.links.proofs.Passing.{rival-inside, Spared, chosen-spared, down-stand, down-gathered}
+use Rattle.links.proofs.Passing.{rival-inside, KeptColumn, chosen-kept, down-stand, down-gathered}
 use Rattle.blocking.proofs.Columns.{rival→, rival←}
 use Rattle.blocking.proofs.Testing.{testing-more}
 use Rattle.blocking.proofs.Stages.{stage-more, item-entry, ground-tidy, rivals-fresh}
@@ -139,31 +139,31 @@ module _ {h : Ground} {tints marks : List ℕ} {r s np q p : ℕ} {heads : List 
   inside : (k : ℕ) → rival_at (ground_at h r q) (h.plan.col q) (h.plan.tint q) k ≡ true → in_column (ground_at h r q) (h.plan.col q) k ≡ true
   inside k = rival-inside (ground_at h r q) (h.plan.col q) k (h.plan.tint q)
 
-  spared : Spared (ground_at h r q) (h.plan.col q) gone
-  spared = chosen-spared q-tidy (rival_at (ground_at h r q) (h.plan.col q) (h.plan.tint q)) inside hd (p + 1) (rivals-fresh m.item (p + 1))
+  column : KeptColumn (ground_at h r q) (h.plan.col q) gone
+  column = chosen-kept q-tidy (h.plan.col q) (rival_at (ground_at h r q) (h.plan.col q) (h.plan.tint q)) inside hd (p + 1) (rivals-fresh m.item (p + 1))
 
   stand : Stand (ground_at h r q) (h.plan.col q) p
   stand = record { on = m.on; col = m.col }
 
   pub down-in : p < length down
-  down-in = rw m.holds.down-are (omega (arith, entry-till h.plan m.item.test.tested.tidy.planned p (on-entry (ground_at h r q) q-tidy p m.on passed-start), spared.now.ring.downs))
+  down-in = rw m.holds.down-are (omega (arith, entry-till h.plan m.item.test.tested.tidy.planned p (on-entry (ground_at h r q) q-tidy p m.on passed-start), column.now.ring.downs))
 
   gathered : rivals_to h r q (reach h.plan (at down p)) ≡ gone
-  gathered = rw m.holds.down-are (down-gathered spared p stand (rival_at (ground_at h r q) (h.plan.col q) (h.plan.tint q)) inside)
+  gathered = rw m.holds.down-are (down-gathered column p stand (rival_at (ground_at h r q) (h.plan.col q) (h.plan.tint q)) inside)
 
   pub step_down : Middle h tints marks r s np q (at down p) heads up down
   step_down = record {
     item = m.item;
-    on = rw m.holds.down-are (down-stand spared p stand).on;
-    col = rw m.holds.down-are (down-stand spared p stand).col;
+    on = rw m.holds.down-are (down-stand column p stand).on;
+    col = rw m.holds.down-are (down-stand column p stand).col;
     alive = m.alive;
     holds = subst (λ (xs : List ℕ). Holds (taken (ground_at h r q) xs) heads up down) (sym gathered) m.holds;
   }
 
   room : h.plan.N ≤ length heads
-  room = rw m.holds.heads-are spared.now.heads-in
+  room = rw m.holds.heads-are column.now.heads-in
 
   pub step_left : (n : ℕ) → length heads ≡ n → left n s (at down p) < left n s p
   step_left n c =
       rw (m.holds.down-are, m.item.test.starts)
-      (step_less (after (ground_at h r q) gone) spared.now (h.plan.col q) hd p (record { on = spared.still p m.col ∙ m.on; col = m.col }) n (omega (arith, c, room)) passed-start)
+      (step_less (after (ground_at h r q) gone) column.now (h.plan.col q) hd p (record { on = column.still p m.col ∙ m.on; col = m.col }) n (omega (arith, c, room)) passed-start)

@@ -66,7 +66,7 @@ module _ {h : Ground} {tints marks : List ℕ} {r s np q : ℕ} (m : AtItem h ti
   -- A rival is an entry of the column.
   rival-entry : (k : ℕ) → rival_at (ground_at h r q) (h.plan.col q) (h.plan.tint q) k ≡ true → EntryOf h.plan k × (h.plan.col k ≡ h.plan.col q)
   rival-entry =
-      chosen-entry ground-tidy (rival_at (ground_at h r q) (h.plan.col q) (h.plan.tint q)) (λ k. rival-inside (ground_at h r q) (h.plan.col q) k (h.plan.tint q))
+      chosen-entry ground-tidy (h.plan.col q) (rival_at (ground_at h r q) (h.plan.col q) (h.plan.tint q)) (λ k. rival-inside (ground_at h r q) (h.plan.col q) k (h.plan.tint q))
 
   -- A rival that is met.
   module _ (k : ℕ) (c : rival_at (ground_at h r q) (h.plan.col q) (h.plan.tint q) k ≡ true) where

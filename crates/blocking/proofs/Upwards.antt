@@ -21,7 +21,7 @@ use Rattle.links.proofs.Rows.{back-begins, back-begun, after-others}
 use Rattle.links.proofs.Gathering.{gather-one, gather_none}
 use Rattle.links.proofs.Descending.{Stand, on-entry}
 use Rattle.blocking.specs.Undo.{Half, rivals_up_to, Below}
-use Rattle.links.proofs.Passing.{rival-inside, Spared, chosen-spared, gathered-none, up-stand, up-falls, up-gathered, last-gathered}
+use Rattle.links.proofs.Passing.{rival-inside, KeptColumn, chosen-kept, gathered-none, up-stand, up-falls, up-gathered, last-gathered}
 use Rattle.blocking.proofs.Columns.{rival→, rival←}
 
 -- A walk up a column has put p's option back, and not gone on yet: the rivals above p are out still.
@@ -40,7 +40,9 @@ module _ {g : Ground} {tints : List ℕ} {p x s : ℕ} {heads : List ℤ} {up do
   rival_here = rival_at g (g.plan.col p) x
 
   pub below-done : p < s → Holds g heads up down
-  below-done h = subst (λ (xs : List ℕ). Holds (taken g xs) heads up down) (gathered-none m.tidy rival_here (λ k. rival-inside g (g.plan.col p) k x) (p + 1) (omega (arith, m.starts))) m.holds
+  below-done h =
+      subst (λ (xs : List ℕ). Holds (taken g xs) heads up down)
+      (gathered-none m.tidy (g.plan.col p) rival_here (λ k. rival-inside g (g.plan.col p) k x) (p + 1) (omega (arith, m.starts))) m.holds
 
   module _ (h : s ≤ p) where
     pub below-entry : EntryOf g.plan p
@@ -120,30 +122,30 @@ module _ {g : Ground} {tints : List ℕ} {p x s : ℕ} {heads : List ℤ} {up do
   inside : (k : ℕ) → rival_at g (g.plan.col p) x k ≡ true → in_column g (g.plan.col p) k ≡ true
   inside k = rival-inside g (g.plan.col p) k x
 
-  spared : Spared g (g.plan.col p) above
-  spared = chosen-spared m.tidy (rival_at g (g.plan.col p) x) inside (m.tidy.planned.entry p m.entry) p m.fresh
+  column : KeptColumn g (g.plan.col p) above
+  column = chosen-kept m.tidy (g.plan.col p) (rival_at g (g.plan.col p) x) inside (m.tidy.planned.entry p m.entry) p m.fresh
 
   stand : Stand g (g.plan.col p) p
   stand = record { on = m.on; col = refl }
 
   pub link-in : p < length up
-  link-in = rw m.holds.up-are (omega (arith, entry-till g.plan m.tidy.planned p m.entry, spared.now.ring.ups))
+  link-in = rw m.holds.up-are (omega (arith, entry-till g.plan m.tidy.planned p m.entry, column.now.ring.ups))
 
   pub link-falls : {u : ℕ} → u ≡ at up p → u < p
-  link-falls a = rw (a, m.holds.up-are) (up-falls spared p stand m.entry)
+  link-falls a = rw (a, m.holds.up-are) (up-falls column p stand m.entry)
 
   same-list : above ≡ rivals_up_to g x (at up p)
   same-list =
-      up-gathered spared p stand (rival_at g (g.plan.col p) x) inside m.entry
+      up-gathered column p stand (rival_at g (g.plan.col p) x) inside m.entry
       ∙ ap (λ (u : List ℕ). gather_to (rival_at g (g.plan.col p) x) g (at u p + 1)) (sym m.holds.up-are)
-      ∙ ap (λ (i : ℕ). gather_to (rival_at g i x) g (at up p + 1)) (sym (ap (λ (u : List ℕ). g.plan.col (at u p)) m.holds.up-are ∙ (up-stand spared p stand).col))
+      ∙ ap (λ (i : ℕ). gather_to (rival_at g i x) g (at up p + 1)) (sym (ap (λ (u : List ℕ). g.plan.col (at u p)) m.holds.up-are ∙ (up-stand column p stand).col))
 
   stepped : Below g tints (at up p) x s heads up down
   stepped = record {
     tidy = m.tidy;
     tinted = m.tinted;
     starts = m.starts;
-    on = rw m.holds.up-are (up-stand spared p stand).on;
+    on = rw m.holds.up-are (up-stand column p stand).on;
     fresh = subst (λ (xs : List ℕ). Fresh g xs) same-list m.fresh;
     holds = subst (λ (xs : List ℕ). Holds (taken g xs) heads up down) same-list m.holds;
   }
@@ -157,27 +159,27 @@ module _ (g : Ground) (tints : List ℕ) (i x s : ℕ) (t : Tidy g) (head_of : H
   abbrev all : List ℕ
   all = gather_to (rival_at g i x) g g.plan.N
 
-  inside : (k : ℕ) → rival_at g i x k ≡ true → in_column g i k ≡ true
-  inside k = rival-inside g i k x
+  all-inside : (k : ℕ) → rival_at g i x k ≡ true → in_column g i k ≡ true
+  all-inside k = rival-inside g i k x
 
-  spared : Spared g i all
-  spared = chosen-spared t (rival_at g i x) inside head_of g.plan.N f
+  all-kept : KeptColumn g i all
+  all-kept = chosen-kept t i (rival_at g i x) all-inside head_of g.plan.N f
 
   col-is : g.plan.col i ≡ i
   col-is = t.planned.header i head_of
 
   lowest : Stand g i (at up i)
-  lowest = rw l.up-are (up-stand spared i (record { on = o; col = col-is }))
+  lowest = rw l.up-are (up-stand all-kept i (record { on = o; col = col-is }))
 
   -- it is the last: below it is the header again
   leads-back : at (taken g all).down (at up i) ≡ i
-  leads-back = rw l.up-are (spared.now.ring.tied i (spared.still i col-is ∙ o)).above_down
+  leads-back = rw l.up-are (all-kept.now.ring.tied i (all-kept.still i col-is ∙ o)).above_down
 
   whole-column : all ≡ rivals_up_to g x (at up i)
-  whole-column = last-gathered spared (at up i) lowest (rival_at g i x) inside leads-back ∙ ap (λ (j : ℕ). gather_to (rival_at g j x) g (at up i + 1)) (sym lowest.col)
+  whole-column = last-gathered all-kept (at up i) lowest (rival_at g i x) all-inside leads-back ∙ ap (λ (j : ℕ). gather_to (rival_at g j x) g (at up i + 1)) (sym lowest.col)
 
   pub header-in : i < length up
-  header-in = rw l.up-are (omega (arith, header-before g.plan t.planned i head_of, t.planned.room, spared.now.ring.ups))
+  header-in = rw l.up-are (omega (arith, header-before g.plan t.planned i head_of, t.planned.room, all-kept.now.ring.ups))
 
   pub from-header : Tinted g.plan tints → s ≡ start g.plan → Below g tints (at up i) x s heads up down
   from-header w q = record {

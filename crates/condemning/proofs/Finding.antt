@@ -42,10 +42,6 @@ module _ {g : Ground} {i c first np : ℕ} {heads : List ℤ} {up down tints₀ 
     pub find-down : r < length down
     find-down = omega (arith, stand-in (hiding g i) tidy (i + 1) own r p.stand, room)
 
-    -- at the header again all are tested
-    pub find-end : r < first → Tried g i np g.plan.N z tints marks
-    find-end l = subst (λ (k : ℕ). Tried g i np k z tints marks) (reach-past g.plan r (omega (arith, l, s.begins))) p.tried
-
     module _ (l : first ≤ r) where
       behind : start g.plan ≤ r
       behind = omega (arith, l, s.begins)

@@ -124,12 +124,6 @@ module _ (g : Ground) (t : Tidy g) (on : ℕ → Bool) (r : ℕ) (e : EntryOf g.
 
 -- The same, of lists that are the ground's.
 module _ {g : Ground} {on : ℕ → Bool} {r : ℕ} {heads : List ℤ} {marks₀ : List ℕ} (m : Marking g on r heads marks₀) where
-  pub mark-small : r < 1048575
-  mark-small = omega (arith, entry-till g.plan m.tidy.planned r m.entry, m.entry.till, row-till g.plan m.tidy.planned r m.entry, m.tidy.planned.small)
-
-  pub mark-begin : Passing g on r marks₀ (r + 1)
-  mark-begin = pass-begin g m.tidy on r m.entry marks₀ m.known
-
   module _ {marks : List ℕ} {q : ℕ} (p : Passing g on r marks q) where
     pub mark-in : q < length heads
     mark-in = rw m.heads-are (omega (arith, pass-in g m.tidy on r m.entry q p.till, m.tidy.heads-in))

@@ -46,9 +46,6 @@ module _ {g : Ground} {i r first np z : ℕ} {heads : List ℤ} {up down tints m
   pub try-node : r ≢ 0
   try-node = omega (arith, entry-from g.plan t.ready.tidy.planned r entry)
 
-  pub try-tints : r < length tints
-  try-tints = omega (arith, inside, t.tried.tinted.room)
-
   -- a coloured one is not tested
   pub try-coloured : at tints r ≢ 0 → Tried g i np (r + 1) z tints marks
   try-coloured n = tried-not g t.ready i r t.column np (coloured-not g t.ready i r t.column np (λ e. n (t.tried.tinted.tint r entry ∙ e))) t.tried

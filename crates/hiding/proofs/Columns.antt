@@ -13,7 +13,7 @@ use Rattle.links.specs.Column.{at}
 use Rattle.links.specs.Plan.{start, EntryOf}
 use Rattle.links.specs.Ground.{Ground}
 use Rattle.links.specs.Taking.{gather_to, in_column, hidden}
-use Rattle.links.proofs.Passing.{hidden-inside, spared-none, gathered-none, down-gathered}
+use Rattle.links.proofs.Passing.{hidden-inside, kept-none, gathered-none, down-gathered}
 use Rattle.links.proofs.Descending.{Stand, column←, on-entry, reach, stand-header, stand-in, step-gap, step-far, header-gap}
 use Rattle.hiding.specs.Hiding.{Column}
 
@@ -23,7 +23,7 @@ module _ {g : Ground} {tints : List ℕ} {c from : ℕ} (w : Column g tints c fr
 
   -- above the first entry nothing is hidden
   pub header-gathers : gather_to (hidden g c) g (c + 1) ≡ []
-  header-gathers = gathered-none w.ready.tidy (hidden g c) (hidden-inside g c) (c + 1) (omega (arith, w.header.below))
+  header-gathers = gathered-none w.ready.tidy c (hidden g c) (hidden-inside g c) (c + 1) (omega (arith, w.header.below))
 
   module _ {rr : ℕ} (s : Stand g c rr) where
     pub stand-inside : rr < g.plan.N
@@ -35,12 +35,9 @@ module _ {g : Ground} {tints : List ℕ} {c from : ℕ} (w : Column g tints c fr
     pub stand-small : rr < node_bound
     stand-small = omega (arith, stand-inside, w.ready.tidy.planned.small)
 
-    pub tint-in : rr < length tints
-    tint-in = omega (arith, stand-inside, w.tinted.room)
-
     -- nor between a node and the one below it
     pub step-gathers : gather_to (hidden g c) g (reach g.plan (at g.down rr)) ≡ gather_to (hidden g c) g (rr + 1)
-    step-gathers = down-gathered (spared-none w.ready.tidy w.header) rr s (hidden g c) (hidden-inside g c)
+    step-gathers = down-gathered (kept-none w.ready.tidy w.header) rr s (hidden g c) (hidden-inside g c)
 
     module _ (l : from ≤ rr) where
       pub behind-headers : start g.plan ≤ rr

@@ -11,12 +11,9 @@ use Rattle.links.specs.Ground.{Ground, Tidy, Within, Fresh}
 use Rattle.links.specs.Row.{others}
 use Rattle.links.specs.Shown.{Ready}
 use Rattle.links.specs.Taking.{gather_to, in_column, hidden}
-use Rattle.links.proofs.Rows.{In-others}
 use Rattle.links.proofs.Gathering.{gather-column}
-use Rattle.links.proofs.Descending.{column→}
-use Rattle.links.proofs.Passing.{hidden-inside, chosen-entry}
+use Rattle.links.proofs.Passing.{hidden-inside, chosen-entry, chosen-within, chosen-fresh}
 use Rattle.hiding.specs.Away.{Rising}
-use Rattle.hiding.proofs.Rises.{rising-fresh}
 use Rattle.hiding.proofs.Order.{gather-rising}
 
 module _ (g : Ground) (r : Ready g) (c : ℕ) where
@@ -25,19 +22,16 @@ module _ (g : Ground) (r : Ready g) (c : ℕ) where
 
   -- a hidden node is an entry of the column
   pub hidden-entry : (k : ℕ) → hidden g c k ≡ true → EntryOf g.plan k × (g.plan.col k ≡ c)
-  hidden-entry = chosen-entry t (hidden g c) (hidden-inside g c)
+  hidden-entry = chosen-entry t c (hidden g c) (hidden-inside g c)
 
   pub hidden-within : (k : ℕ) → hidden g c k ≡ true → (y : ℕ) → In y (others g k) → Within g y
-  hidden-within k e y m =
-      let b = (hidden-entry k e).0 in
-      let w = In-others g t k b m in
-      record { entry = w.0; on = r.whole.mates k y b w.0 (sym w.1) (column→ g c k (hidden-inside g c k e)).0 w.3; header = r.whole.headers (g.plan.col y) (t.planned.entry y w.0) }
+  hidden-within = chosen-within t c (hidden g c) (hidden-inside g c) r.whole
 
   pub gathered-rising : (k : ℕ) → Rising g (gather_to (hidden g c) g k)
   gathered-rising = gather-rising (hidden g c) g t c hidden-entry hidden-within
 
   pub gathered-fresh : (k : ℕ) → Fresh g (gather_to (hidden g c) g k)
-  gathered-fresh k = rising-fresh g (gather_to (hidden g c) g k) t (gathered-rising k)
+  gathered-fresh = chosen-fresh t c (hidden g c) (hidden-inside g c) r.whole
 
   pub gathered-off-column : (k : ℕ) {y : ℕ} → In y (gather_to (hidden g c) g k) → g.plan.col y ≢ c
   gathered-off-column = gather-column (hidden g c) g t c hidden-entry

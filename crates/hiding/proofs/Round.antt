@@ -69,7 +69,8 @@ module _ {g : Ground} {rr np : ℕ} {last : Option ℕ} (a : Around g rr) where
       module _ (z : None ≡ column_in (head heads nn)) where
         pub over : Round g rr np last heads up down (at up nn) stack
         over =
-            moved (walked g rr nn) (at up nn) (Onward.over-at stands d (item_none (head heads nn) z)) (Onward.over-walked stands d (item_none (head heads nn) z)) m.fresh m.holds m.chosen
+            moved (walked g rr nn) (at up nn) (Onward.over-at stands d (item_none (head heads nn) z))
+            (Onward.over-walked stands d (item_none (head heads nn) z)) m.fresh m.holds m.chosen
 
         pub over-less : (n : ℕ) → length heads ≡ n → way n rr (at up nn) < way n rr nn
         over-less = Onward.over-way stands d (item_none (head heads nn) z)

@@ -65,7 +65,8 @@ holds-same a b = (b.heads-are ∙ sym a.heads-are, b.up-are ∙ sym a.up-are, b.
 -- Two runs that began with the same lists and took out the same nodes in the same order ended with the same lists: whatever the two grounds say
 -- of the mask. With it a walk is followed in a ground from whose mask a column was left out, say, and its lists are those of the whole ground.
 pub runs-same : (g h : Ground) → h.plan.col ≡ g.plan.col → {heads : List ℤ} {up down : List ℕ} → Holds g heads up down → Holds h heads up down → (xs : List ℕ)
-    → {heads₁ heads₂ : List ℤ} {up₁ up₂ down₁ down₂ : List ℕ} → Holds (taken g xs) heads₁ up₁ down₁ → Holds (taken h xs) heads₂ up₂ down₂ → (heads₂ ≡ heads₁) × (up₂ ≡ up₁) × (down₂ ≡ down₁)
+    → {heads₁ heads₂ : List ℤ} {up₁ up₂ down₁ down₂ : List ℕ} → Holds (taken g xs) heads₁ up₁ down₁ → Holds (taken h xs) heads₂ up₂ down₂
+    → (heads₂ ≡ heads₁) × (up₂ ≡ up₁) × (down₂ ≡ down₁)
 runs-same g h c k l xs a b = (
   b.heads-are ∙ taken-heads h xs ∙ ap (λ (col : ℕ → ℕ). spent col h.heads xs) c ∙ ap (λ (z : List ℤ). spent g.plan.col z xs) heads-same ∙ sym (taken-heads g xs) ∙ sym a.heads-are,
   b.up-are ∙ taken-up h xs ∙ ap (λ (z : List ℕ). cut_ups z h.down xs) up-same ∙ ap (λ (z : List ℕ). cut_ups g.up z xs) down-same ∙ sym (taken-up g xs) ∙ sym a.up-are,

@@ -102,9 +102,6 @@ module _ (g : Ground) (t : Tidy g) (r : ℕ) (e : EntryOf g.plan r) where
 
 -- The same, of lists that are the ground's.
 module _ (g : Ground) (r : ℕ) (heads : List ℤ) (down : List ℕ) (l : Led g r heads down) where
-  pub led-some : 1 ≤ r
-  led-some = omega (arith, l.entry.from, low-start g l.tidy r l.entry)
-
   pub led-begin : Back g r (r - 1)
   led-begin = back-begin g l.tidy r l.entry
 

@@ -1,4 +1,3 @@
-pub mod Signed
 pub mod Stores
 pub mod Rings
 pub mod Plans

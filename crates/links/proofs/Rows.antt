@@ -129,9 +129,6 @@ module _ (g : Ground) (t : Tidy g) (p : ℕ) (e : EntryOf g.plan p) where
     pub back_inside : item_of (head g.heads q) ≢ 0 → At g p q
     back_inside n = ⊎_elim (λ s. absurd (n (ap (λ (y : ℕ). item_of (head g.heads y)) s ∙ row-edge.none))) (λ d. record { from = omega (arith, a.from, d); till = omega (arith, a.till) }) (same? q (lo g.plan p - 1))
 
-    pub back-full-at : item_of (head g.heads q) ≢ 0 → At g p (q - 1 + 1)
-    back-full-at n = let s : q - 1 + 1 ≡ q = omega (arith, back_some) in rw s (back_inside n)
-
     pub back-full-way : (m : ℕ) → g.plan.N ≤ m → q ≢ p → way_back m p (q - 1) < way_back m p q
     back-full-way m h d = back-next m p q d back_some (omega (arith, back_in)) (omega (arith, e.till, row-till g.plan W p e))
 
@@ -208,7 +205,8 @@ walked-alike g h same p e f nn k =
 
     behind : (b : ℕ) → b ≤ hi g.plan p → keep (full h.heads) (span (p + 1) b) ≡ keep (full g.heads) (span (p + 1) b)
     behind b l =
-        keep-cong (full h.heads) (full g.heads) (span (p + 1) b) (λ y m. let w = In-span (p + 1) b m in one y (omega (arith, w.0, e.from)) (omega (arith, w.1)) (λ q. omega (arith, w.0, q)))
+        keep-cong (full h.heads) (full g.heads) (span (p + 1) b)
+        (λ y m. let w = In-span (p + 1) b m in one y (omega (arith, w.0, e.from)) (omega (arith, w.1)) (λ q. omega (arith, w.0, q)))
 
     onward : p < nn → passed h.heads (lo g.plan p) (hi g.plan p) p nn ≡ passed g.heads (lo g.plan p) (hi g.plan p) p nn
     onward l = rw (lt-ltb p nn l) (behind nn k)
@@ -216,7 +214,8 @@ walked-alike g h same p e f nn k =
     round : nn ≤ p → passed h.heads (lo g.plan p) (hi g.plan p) p nn ≡ passed g.heads (lo g.plan p) (hi g.plan p) p nn
     round l =
         let front =
-        keep-cong (full h.heads) (full g.heads) (span (lo g.plan p) nn) (λ y m. let w = In-span (lo g.plan p) nn m in one y w.0 (omega (arith, w.1)) (λ q. omega (arith, w.1, l, q))) in
+        keep-cong (full h.heads) (full g.heads) (span (lo g.plan p) nn)
+        (λ y m. let w = In-span (lo g.plan p) nn m in one y w.0 (omega (arith, w.1)) (λ q. omega (arith, w.1, l, q))) in
         rw (le-ltb p nn l, behind (hi g.plan p) (omega arith), front)
 
 pub others-alike : (g h : Ground) → h.plan ≡ g.plan → (p : ℕ) → EntryOf g.plan p → ((y : ℕ) → lo g.plan p ≤ y → y < hi g.plan p → y ≢ p → head h.heads y ≡ head g.heads y)

@@ -73,7 +73,7 @@ module _ (f : ℕ → Bool) (a b : ℕ) (h : a ≤ b) where
   pub keep-rises : (c : ℕ) → b < c → f b ≡ true → length (keep f (span a b)) < length (keep f (span a c))
   keep-rises c k e =
       let s = ap (keep f) (span-split a b c h k) ∙ keep_append f (span a b) (b ∷ span (b + 1) c)
-          ∙ ap (λ (t : Bool). keep f (span a b) ++ cond t (b ∷ keep f (span (b + 1) c)) (keep f (span (b + 1) c))) e in
+      ∙ ap (λ (t : Bool). keep f (span a b) ++ cond t (b ∷ keep f (span (b + 1) c)) (keep f (span (b + 1) c))) e in
       let n = ap length s in
       let m = length-append (keep f (span a b)) (b ∷ keep f (span (b + 1) c)) in
       omega (arith, n, m)
@@ -91,7 +91,8 @@ module _ (heads : List ℤ) (a b p : ℕ) where
       behind : nn ≤ p → passed heads a b p (nn + 1) ≡ passed heads a b p nn ++ (nn ∷ [])
       behind l =
           rw (le-ltb p (nn + 1) (omega arith), le-ltb p nn l)
-          (ap (λ (z : List ℕ). keep (full heads) (span (p + 1) b) ++ z) (keep-end (full heads) a nn h f) ∙ sym (append_assoc (keep (full heads) (span (p + 1) b)) (keep (full heads) (span a nn)) (nn ∷ [])))
+          (ap (λ (z : List ℕ). keep (full heads) (span (p + 1) b) ++ z) (keep-end (full heads) a nn h f)
+          ∙ sym (append_assoc (keep (full heads) (span (p + 1) b)) (keep (full heads) (span a nn)) (nn ∷ [])))
 
   pub passed_over : (nn : ℕ) → a ≤ nn → nn ≢ p → full heads nn ≡ false → passed heads a b p (nn + 1) ≡ passed heads a b p nn
   passed_over nn h n f = ⊎_elim ahead behind (less? p nn)

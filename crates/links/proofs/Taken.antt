@@ -1,5 +1,6 @@
 -- What the nodes taken out leave, as a function of the ground and of the list of those nodes: plan and lengths stay, the mask loses just those nodes,
--- heads of entries stay and so do the links of nodes that are in no column, and the lists are tidy still. So a walk that takes nodes out need only know which it has taken, in order. Assumes nothing.
+-- heads of entries stay and so do the links of nodes that are in no column, and the lists are tidy still.
+-- So a walk that takes nodes out need only know which it has taken, in order. Assumes nothing.
 use Prim.Native.Nat.{ℕ}
 use mathlib.Core.Path.{◌≡◌, refl, ◌∙◌, ap, sym, subst}
 use mathlib.Core.Logic.{⊎_elim}
@@ -110,10 +111,6 @@ fresh-of g (x ∷ xs) t h d =
     let w = distinct→ x xs d in
     let v = h x (here refl) in
     (v, fresh-of (cut_one g x) xs (tidy-cut g t x v) (λ y m. within-cut g t x v (h y (next m)) (λ e. w.0 (Memᴰ.cast (sym e) m))) w.1)
-
--- one more
-pub fresh-more : (g : Ground) (xs : List ℕ) → Tidy g → Fresh g xs → {y : ℕ} → Within g y → (In y xs → ⊥) → Fresh g (xs ++ (y ∷ []))
-fresh-more g xs t f {y} v n = fresh-append g xs (y ∷ []) f (within-taken g xs t f v n, tt)
 
 -- Lengths stay.
 pub taken-lengths : (g : Ground) (xs : List ℕ)

@@ -51,7 +51,8 @@ module _ (g : Ground) (xs : List ℕ) (x : ℕ) (t : Tidy g) (f : Fresh g xs) (w
         (omega (arith, n, now-tidy.ring.ups), omega (arith, n, now-tidy.ring.downs), cut-up-in (after g xs) now-tidy x w, cut-down-in (after g xs) now-tidy x w)
 
 -- Putting the last node back gives the lists before it was taken.
-module _ (g : Ground) (xs : List ℕ) (x : ℕ) (t : Tidy g) (f : Fresh g (xs ++ (x ∷ []))) {heads : List ℤ} {up down : List ℕ} (l : Holds (taken g (xs ++ (x ∷ []))) heads up down) where
+module _ (g : Ground) (xs : List ℕ) (x : ℕ) (t : Tidy g) (f : Fresh g (xs ++ (x ∷ [])))
+    {heads : List ℤ} {up down : List ℕ} (l : Holds (taken g (xs ++ (x ∷ []))) heads up down) where
   last_within : Within (after g xs) x
   last_within = (fresh-after g xs (x ∷ []) f).0
 

@@ -21,7 +21,7 @@ use Rattle.links.proofs.Plans.{entry-from, entry-no-header}
 use Rattle.links.proofs.Taken.{on-taken, taken-head, taken-after}
 use Rattle.showing.specs.Showing.{state_of, deletes, Condemns, condemned_at}
 use Rattle.showing.proofs.Condemned.{condemns, condemned→}
-use Rattle.showing.proofs.Deleted.{deletes-fresh, deleted-ready, condemned-apart}
+use Rattle.showing.proofs.Deleted.{deleted-ready, condemned-apart}
 use Rattle.showing.proofs.ItemStep.{chosen_is, chosen_none, step-removes, removing-empties, step-deletes, deleting-empties}
 use Rattle.hiding.specs.Hiding.{Column, Taken}
 use Rattle.removing.specs.Removing.{Removing, Removed, removed}
@@ -30,7 +30,7 @@ use Rattle.condemning.specs.Marks.{Known}
 use Rattle.condemning.specs.Search.{down_to, Chain, Search, Hiding, Tried, Sparing, Spared}
 use Rattle.condemning.proofs.Chains.{down-reverse}
 use Rattle.condemning.proofs.Knowing.{known-pass}
-use Rattle.condemning.proofs.Sparing.{down-front, spared-all}
+use Rattle.condemning.proofs.Sparing.{down-front, all-fresh, spared-all}
 use Rattle.rules.specs.declared.answer.Cause.TheVariants.{Redundant, Blocked}
 use Rattle.preproc.specs.Standing.{Standing, Figured}
 use Rattle.preproc.proofs.Coming.{Came}
@@ -147,7 +147,7 @@ module _ {g : Ground} (i : ℕ) {c first np : ℕ} {heads : List ℤ} {up down t
           apart = condemned-apart np i g (down_to (condemned_at np i g) g.plan.N) C
 
           fresh : Fresh g (deletes g (down_to (condemned_at np i g) g.plan.N))
-          fresh = deletes-fresh g R (down_to (condemned_at np i g) g.plan.N) C.entry C.on apart
+          fresh = all-fresh g R i np C
 
           pub step-deleted : Came g.plan (item_step np i (state_of g)) z Blocked b heads₄ up₄ down₄ tints₂ marks₂
           step-deleted = record {

@@ -10,31 +10,21 @@ use lib.ListN.{length}
 use lib.IntN.{ℤ}
 use Rattle.links.specs.Head.{item_of, head}
 use Rattle.links.specs.Column.{at}
-use Rattle.links.specs.Plan.{EntryOf, Header}
-use Rattle.links.specs.Ground.{Ground, Tidy, taken, Fresh, Holds}
+use Rattle.links.specs.Plan.{EntryOf}
+use Rattle.links.specs.Ground.{Ground, Tidy, Within, taken, Fresh, Holds}
 use Rattle.links.specs.Row.{walked, others}
 use Rattle.links.specs.Way.{way}
 use Rattle.links.specs.Taking.{first_out}
-use Rattle.links.proofs.Plans.{entry-till, header-before}
-use Rattle.links.proofs.Taken.{taken-append, taken-tidy, taken-head, taken-up-off, taken-lengths, within-taken, fresh-of, fresh-front}
-use Rattle.links.proofs.Rows.{At, place_in, walk_begins, walked_none, full-inside, full-entry, full-head, full_at, full-walked, full-way, over-at, over-walked, over-way, In-walked, others-In}
+use Rattle.links.proofs.Plans.{entry-till}
+use Rattle.links.proofs.Taken.{taken-append, taken-after, taken-tidy, taken-lengths, fresh-of, fresh-front}
+use Rattle.links.proofs.Rows.{At, place_in, walk_begins, walked_none}
+use Rattle.links.proofs.Onward as Onward
+use Rattle.links.proofs.Onward.{Underway, passing-within}
 use Rattle.links.proofs.Gathering.{others-distinct}
 use Rattle.links.proofs.Endings.{earlier}
 use Rattle.removing.specs.Deleting.{Sitting, Deleting, Deleted}
 use Rattle.links.proofs.Ahead.{ahead, walked-ahead}
 use Rattle.removing.proofs.Emptying.{first-append}
-
--- The place of a walk is no header, and a node with no item is in no column.
-module _ (g : Ground) (t : Tidy g) (p : ℕ) (e : EntryOf g.plan p) (nn : ℕ) (a : At g p nn) where
-  pub place-no-header : Header g.plan nn → ⊥
-  place-no-header h = omega (arith, header-before g.plan t.planned nn h, t.planned.from (g.plan.number p) e.option, a.from)
-
-  pub none-off : item_of (head g.heads nn) ≡ 0 → g.on nn ≡ false
-  none-off z = go (g.on nn) refl
-    where
-      go : (b : Bool) → g.on nn ≡ b → b ≡ false
-      go true o = ⊎_elim (λ h. absurd (place-no-header h)) (λ y. absurd (omega (arith, sym z ∙ ap item_of (t.full nn y o), (t.planned.entry nn y).above))) (t.masked nn o)
-      go false o = refl
 
 -- The walk is at q: the lists are those without what was passed, and z is the first primary column that this emptied.
 pub record Midway (g : Ground) (r np : ℕ) (heads : List ℤ) (up down : List ℕ) (q z : ℕ) : Type 0 where
@@ -48,12 +38,6 @@ module _ {g : Ground} {r : ℕ} {heads₀ : List ℤ} {up₀ down₀ : List ℕ}
 
   e : EntryOf g.plan r
   e = d.entry
-
-  pub deletes-fits : r + 1 < node_bound
-  deletes-fits = omega (arith, entry-till g.plan t.planned r e, t.planned.small)
-
-  pub deletes-room : g.plan.N ≤ length heads₀
-  deletes-room = rw d.holds.heads-are t.heads-in
 
   pub others-fresh : Fresh g (others g r)
   others-fresh = fresh-of g (others g r) t d.others-in (others-distinct g r)
@@ -73,64 +57,43 @@ module _ {g : Ground} {r : ℕ} {heads₀ : List ℤ} {up₀ down₀ : List ℕ}
       fresh : Fresh g (walked g r q)
       fresh = walked-fresh q m.place
 
-      -- the place is within the lists
-      pub midway-in : (q < length heads) × (q < length up) × (q + 1 < node_bound)
-      midway-in =
-          let l = taken-lengths g (walked g r q) in
-          let i = place_in g t r e q m.place in
-          (rw m.holds.heads-are (omega (arith, l.0, i, t.heads-in)), rw m.holds.up-are (omega (arith, l.1, i, t.ring.ups)), omega (arith, i, t.planned.small))
+      stands : Underway g (walked g r q) r q heads up down
+      stands = record { tidy = t; fresh = fresh; entry = e; place = m.place; holds = m.holds }
 
-      same_head : head heads q ≡ head g.heads q
-      same_head = ap (λ (l : List ℤ). head l q) m.holds.heads-are ∙ taken-head g (walked g r q) t fresh q (place-no-header g t r e q m.place)
+      same_length : length heads ≡ length heads₀
+      same_length = rw (m.holds.heads-are, d.holds.heads-are) (taken-lengths g (walked g r q)).0
 
       module _ (other : q ≢ r) where
         -- at a boundary, or a shortened entry
         module _ (none : item_of (head heads q) ≡ 0) where
-          bare : item_of (head g.heads q) ≡ 0
-          bare = sym (ap item_of same_head) ∙ none
-
-          leads : at up q ≡ at g.up q
-          leads = ap (λ (l : List ℕ). at l q) m.holds.up-are ∙ taken-up-off g (walked g r q) t fresh q (none-off g t r e q m.place bare)
-
           pub midway-over : Midway g r np heads up down (at up q) z
           midway-over =
-              let s = over-walked g t r e q m.place other bare in
-              rw leads
-              (record {
-                place = over-at g t r e q m.place other bare;
+              let s = Onward.over-walked stands other none in
+              record {
+                place = Onward.over-at stands other none;
                 holds = subst (λ (l : List ℕ). Holds (taken g l) heads up down) (sym s) m.holds;
                 first = m.first ∙ sym (ap (first_out g np) s);
-              })
+              }
 
           pub midway-over-way : way (length heads₀) r (at up q) < way (length heads₀) r q
-          midway-over-way = rw leads (over-way g t r e q m.place other bare (length heads₀) deletes-room)
-
-        pub midway-way : way (length heads₀) r (q + 1) < way (length heads₀) r q
-        midway-way = full-way g t r e (length heads₀) q deletes-room m.place other
+          midway-over-way = Onward.over-way stands other none (length heads₀) same_length
 
         -- at an entry with an item
         module _ (n : item_of (head heads q) ≢ 0) where
-          some : item_of (head g.heads q) ≢ 0
-          some e = n (ap item_of same_head ∙ e)
-
           pub midway-sits : Sitting (taken g (walked g r q)) q heads up down
-          midway-sits =
-              let y = full-entry g t r e q m.place some in
-              let k = t.planned.numbered (g.plan.number r) q e.option m.place.from (full-inside g t r e q m.place some) in
-              let i = others-In g t r e y k other (full-head g t r e q m.place some) in
-              record {
-                tidy = taken-tidy g (walked g r q) t fresh;
-                within = within-taken g (walked g r q) t fresh (d.others-in q i) (λ u. (In-walked g t r e q m.place u).3 refl);
-                holds = m.holds;
-              }
+          midway-sits = record {
+            tidy = taken-tidy g (walked g r q) t fresh;
+            within = subst (λ (h : Ground). Within h q) (sym (taken-after g (walked g r q))) (passing-within stands other n d.others-in);
+            holds = m.holds;
+          }
 
           more : walked g r (q + 1) ≡ walked g r q ++ (q ∷ [])
-          more = full-walked g t r e q m.place other some
+          more = Onward.full-one stands other n
 
           pub midway-next : {heads' : List ℤ} {up' down' : List ℕ} {y : ℕ} → Deleted (taken g (walked g r q)) np (q ∷ []) heads' up' down' y
               → Midway g r np heads' up' down' (q + 1) (earlier z y)
           midway-next {heads'} {up'} {down'} o = record {
-            place = full_at g t r e q m.place some;
+            place = Onward.full-at stands other n;
             holds = subst (λ (h : Ground). Holds h heads' up' down') (sym (taken-append g (walked g r q) (q ∷ [])) ∙ ap (taken g) (sym more)) o.holds;
             first = rw (m.first, o.answer) (sym (first-append g np (walked g r q) (q ∷ []) t fresh) ∙ ap (first_out g np) (sym more));
           }

@@ -42,19 +42,8 @@ module _ {g : Ground} {r : ℕ} {heads : List ℤ} {up : List ℕ} (w : Walking 
   room : g.plan.N ≤ length heads
   room = rw w.heads-are t.heads-in
 
-  pub looks-fits : r + 1 < node_bound
-  looks-fits = omega (arith, entry-till g.plan t.planned r e, t.planned.small)
-
   module _ {p : ℕ} where
-    pub looks-begin : HoldingAt g r p (r + 1)
-    looks-begin = record { place = walk_begins g t r e; none = ap (any (λ y. eqb (g.plan.col y) p)) (walked_none g t r e) }
-
     module _ {q : ℕ} (m : HoldingAt g r p q) where
-      pub looks-in : (q < length heads) × (q < length up) × (q + 1 < node_bound)
-      looks-in =
-          let i = place_in g t r e q m.place in
-          (omega (arith, i, room), rw w.up-are (omega (arith, i, t.ring.ups)), omega (arith, i, t.planned.small))
-
       module _ (other : q ≢ r) where
         -- at a boundary, or a shortened entry
         module _ (z : item_of (head heads q) ≡ 0) where
@@ -68,9 +57,6 @@ module _ {g : Ground} {r : ℕ} {heads : List ℤ} {up : List ℕ} (w : Walking 
 
           pub looks-over-way : way (length heads) r (at up q) < way (length heads) r q
           looks-over-way = rw w.up-are (over-way g t r e q m.place other bare (length heads) room)
-
-        pub looks-way : way (length heads) r (q + 1) < way (length heads) r q
-        looks-way = full-way g t r e (length heads) q room m.place other
 
         -- at an entry with an item
         module _ (n : item_of (head heads q) ≢ 0) where

@@ -18,7 +18,8 @@ use Rattle.links.proofs.Plans.{entry-from, row-entry}
 use Rattle.links.proofs.Spans.{In-span, span-In}
 use Rattle.links.proofs.Rows.{In-others}
 use Rattle.links.proofs.Gathering.{In-gather, gather-fresh}
-use Rattle.links.proofs.Descending.{column→, column←, on-entry}
+use Rattle.links.proofs.Descending.{column←, column-entry}
+use Rattle.links.proofs.Passing.{leaving-inside}
 use Rattle.removing.proofs.OffColumn.{off←, tidy-off}
 
 -- the same nodes are gathered where a column is out of sight
@@ -51,9 +52,8 @@ module _ (g : Ground) (R : Ready g) (c p : ℕ) where
 
   leaving→ : (k : ℕ) → leaving g c p k ≡ true → EntryOf g.plan k × (g.on k ≡ true) × (g.plan.col k ≡ c) × T (not (holds_column g (g.plan.number k) p))
   leaving→ k e =
-      let a = T_and (in_column g c k) (not (holds_column g (g.plan.number k) p)) (true-T e) in
-      let w = column→ g c k (T_true (in_column g c k) a.0) in
-      (on-entry g t k w.0 w.2, w.0, w.1, a.1)
+      let w = column-entry g t c k (leaving-inside g c k p e) in
+      (w.0, w.1, w.2, (T_and (in_column g c k) (not (holds_column g (g.plan.number k) p)) (true-T e)).1)
 
   -- an entry of the column goes or stays by what its option holds
   pub leaving-is : (k : ℕ) → EntryOf g.plan k → g.on k ≡ true → g.plan.col k ≡ c → leaving g c p k ≡ not (holds_column g (g.plan.number k) p)

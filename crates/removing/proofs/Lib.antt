@@ -2,7 +2,6 @@ pub mod Emptying
 pub mod TakingOut
 pub mod Deletes
 pub mod WholeOption
-pub mod Dropping
 pub mod OffColumn
 pub mod Shortening
 pub mod EmptyColumn

@@ -43,9 +43,6 @@ module _ {g : Ground} {c p first : ℕ} {heads₀ : List ℤ} {up₀ down₀ : L
   t : Tidy g
   t = R.tidy
 
-  pub remove-in : c < length down₀
-  remove-in = rw Q.holds.down-are (omega (arith, header-before g.plan t.planned c Q.item, t.planned.room, t.ring.downs))
-
   module _ {np : ℕ} where
     pub remove-begin : AtNode g c p np heads₀ up₀ down₀ (at down₀ c)
     remove-begin = rw (Q.holds.heads-are, Q.holds.up-are, Q.holds.down-are) (record {
@@ -113,9 +110,6 @@ module _ {g : Ground} {c p first : ℕ} {heads₀ : List ℤ} {up₀ down₀ : L
 
         before : c < g.plan.N
         before = omega (arith, header-before g.plan t.planned c Q.item, t.planned.room)
-
-        pub remove-asks : (c < node_bound) × (c < length heads) × (c < length up) × (c < length down)
-        remove-asks = (omega (arith, before, t.planned.small), omega (arith, before, done.tidy.heads-in), omega (arith, before, done.tidy.ring.ups), omega (arith, before, done.tidy.ring.downs))
 
         module _ {heads' : List ℤ} {up' down' : List ℕ} (a : heads' ≡ set heads c (pos 0)) (b : up' ≡ set up c c) (d : down' ≡ set down c c) where
           tidy : Tidy (removed g c p heads' up' down')

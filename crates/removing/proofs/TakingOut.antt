@@ -14,7 +14,8 @@ use Rattle.links.specs.Head.{item_of, below_zero, head}
 use Rattle.links.specs.Column.{at, cut_up, cut_down}
 use Rattle.links.specs.Ground.{Ground, Tidy, Within, cut_one, Holds}
 use Rattle.links.specs.Taking.{first_out}
-use Rattle.links.proofs.Grounds.{col-in, length_some, length-small, node_in, cut-up-in, cut-down-in}
+use Rattle.links.proofs.Grounds.{node_in}
+use Rattle.links.proofs.Undoing.{take_out, fewer-asks, unlink-asks}
 use Rattle.removing.specs.Deleting.{Sitting, Deleted}
 
 module _ {g : Ground} {x : ℕ} {heads : List ℤ} {up down : List ℕ} (s : Sitting g x heads up down) where
@@ -26,11 +27,6 @@ module _ {g : Ground} {x : ℕ} {heads : List ℤ} {up down : List ℕ} (s : Sit
 
   pub sits-in : x < length heads
   sits-in = rw s.holds.heads-are (omega (arith, node_in g t x w, t.heads-in))
-
-  pub sits-links : (x < length up) × (x < length down) × (at up x < length down) × (at down x < length up)
-  sits-links =
-      rw (s.holds.up-are, s.holds.down-are)
-      (omega (arith, node_in g t x w, t.ring.ups), omega (arith, node_in g t x w, t.ring.downs), cut-up-in g t x w, cut-down-in g t x w)
 
   pub sits-number : below_zero (head heads x) ≡ false
   sits-number = ap (λ (l : List ℤ). below_zero (head l x)) s.holds.heads-are ∙ ap below_zero (t.full x w.entry w.on)
@@ -44,17 +40,12 @@ module _ {g : Ground} {x : ℕ} {heads : List ℤ} {up down : List ℕ} (s : Sit
     sits-column = let h = t.planned.entry x w.entry in rw sits-item (h.above, omega (arith, h.below, t.planned.room, t.planned.small))
 
     pub sits-length : (i < length heads) × (item_of (head heads i) < node_bound) × (0 < item_of (head heads i))
-    sits-length = rw (sits-item, s.holds.heads-are) (col-in g t x w, length-small g t x w, length_some g t x w)
+    sits-length = rw sits-item (fewer-asks g [] x t tt w s.holds)
 
     -- the lists afterwards
     module _ {heads' : List ℤ} {up' down' : List ℕ} (h : heads' ≡ set heads i (pos (item_of (head heads i) - 1))) (u : up' ≡ cut_up up down x) (d : down' ≡ cut_down up down x) where
       out-holds : Holds (cut_one g x) heads' up' down'
-      unfolding cut_one
-      out-holds = record {
-        heads-are = h ∙ rw (sits-item, s.holds.heads-are);
-        up-are = u ∙ rw (s.holds.up-are, s.holds.down-are);
-        down-are = d ∙ rw (s.holds.up-are, s.holds.down-are);
-      }
+      out-holds = rw (h, u, d, sits-item) (take_out g [] x t tt w s.holds)
 
       out_first : (np : ℕ) {k : ℕ} → k ≡ item_of (head heads i) - 1 → first_out g np (x ∷ []) ≡ cond (eqb k 0 && leb i np) i 0
       out_first np {k} e = rw (e, sits-item, s.holds.heads-are)

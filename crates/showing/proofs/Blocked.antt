@@ -31,7 +31,8 @@ use Rattle.showing.proofs.InOrder.{nodes_in, In-nodes, nodes-In}
 use Rattle.showing.proofs.Around.{full-linked}
 use Rattle.showing.proofs.Begins.{begins-uncoloured}
 use Rattle.showing.proofs.Columns.{column→, column←, column-holds}
-use Rattle.showing.proofs.HiddenStates.{hiding, hiding-is, hiding-tidy, hiding→, hiding←, hiding-full, hiding-others, others-within}
+use Rattle.links.proofs.Passing.{others-within}
+use Rattle.showing.proofs.HiddenStates.{hiding, hiding-is, hiding-tidy, hiding→, hiding←, hiding-full, hiding-others}
 
 -- columns are items, one further on
 from-items : (n i : ℕ) → from (suc i) n ≡ map (λ q. q + 1) (from i n)

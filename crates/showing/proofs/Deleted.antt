@@ -29,7 +29,7 @@ use Rattle.links.proofs.Rows.{In-others}
 use Rattle.links.proofs.Gathering.{others-distinct}
 use Rattle.showing.specs.Showing.{state_of, deletes, Condemns}
 use Rattle.showing.proofs.Lists.{distinct-reverse}
-use Rattle.showing.proofs.HiddenStates.{others-within}
+use Rattle.links.proofs.Passing.{others-within}
 use Rattle.showing.proofs.Deleting.{In-deletes, deletes-In}
 
 module _ (g : Ground) (R : Ready g) where

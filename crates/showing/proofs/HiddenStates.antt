@@ -16,7 +16,8 @@ use Rattle.links.specs.Taking.{in_column, hidden, hides}
 use Rattle.links.proofs.Plans.{entry-till}
 use Rattle.links.proofs.Taken.{taken-after, taken-on, on-taken, after-tidy}
 use Rattle.links.proofs.Rows.{In-others, others-In, after-full, after-others}
-use Rattle.links.proofs.Gathering.{In-gather, gather-In, gather-column, gather-fresh}
+use Rattle.links.proofs.Gathering.{In-gather, gather-In, gather-column}
+use Rattle.links.proofs.Passing.{hidden-inside, chosen-entry, chosen-fresh}
 use Rattle.showing.specs.Showing.{state_of}
 use Rattle.showing.proofs.Shows.{Linked, uncoloured-node, node-uncoloured}
 use Rattle.showing.proofs.Columns.{column←}
@@ -29,22 +30,9 @@ hiding g c = after g (hides g (c + 1))
 pub hiding-is : (g : Ground) (c : ℕ) → taken g (hides g (c + 1)) ≡ hiding g c
 hiding-is g c = taken-after g (hides g (c + 1))
 
--- the others of a linked node are in their columns
-pub others-within : (g : Ground) → Ready g → (y : ℕ) → EntryOf g.plan y → g.on y ≡ true → {z : ℕ} → In z (others g y) → Within g z
-others-within g R y e o {z} m =
-    let w = In-others g R.tidy y e m in
-    record {
-      entry = w.0;
-      on = R.whole.mates y z e w.0 (sym w.1) o w.3;
-      header = R.whole.headers (g.plan.col z) (R.tidy.planned.entry z w.0);
-    }
-
 module _ (g : Ground) (R : Ready g) (c : ℕ) where
   W : Planned g.plan
   W = R.tidy.planned
-
-  picked : (k : ℕ) → hidden g (c + 1) k ≡ true → EntryOf g.plan k × (g.plan.col k ≡ c + 1)
-  picked k h = let v = hidden-picks g R c k h in (v.0, v.2)
 
   -- What hiding takes out: the other nodes of the options that hold c uncoloured.
   pub hides-In : {y : ℕ} → In y (hides g (c + 1)) → EntryOf g.plan y × (g.plan.col y ≢ c + 1) × T (holds_uncoloured c (option_at (state_of g) (g.plan.number y)))
@@ -54,8 +42,11 @@ module _ (g : Ground) (R : Ready g) (c : ℕ) where
       let u = hidden-picks g R c w.0 w.2 in
       let v = In-others g R.tidy w.0 u.0 w.3 in
       let z = (T_and (in_column g (c + 1) w.0) (eqb (g.plan.tint w.0) 0) (true-T w.2)).1 in
-      let l : Linked g.plan g.on (g.plan.number y) w.0 = record { entry = u.0; option = sym v.1; is-on = u.1 } in
-      (v.0, gather-column (hidden g (c + 1)) g R.tidy (c + 1) picked g.plan.N m, node-uncoloured g.plan W g.on (g.plan.number y) w.0 c l u.2 (eqb→eq (g.plan.tint w.0) 0 z))
+      let l : Linked g.plan g.on (g.plan.number y) w.0 = record { entry = u.0; option = sym v.1; is-on = u.1 } in (
+        v.0,
+        gather-column (hidden g (c + 1)) g R.tidy (c + 1) (chosen-entry R.tidy (c + 1) (hidden g (c + 1)) (hidden-inside g (c + 1))) g.plan.N m,
+        node-uncoloured g.plan W g.on (g.plan.number y) w.0 c l u.2 (eqb→eq (g.plan.tint w.0) 0 z),
+      )
 
   pub In-hides : (y : ℕ) → EntryOf g.plan y → g.on y ≡ true → g.plan.col y ≢ c + 1 → T (holds_uncoloured c (option_at (state_of g) (g.plan.number y))) → In y (hides g (c + 1))
   unfolding hides
@@ -69,8 +60,7 @@ module _ (g : Ground) (R : Ready g) (c : ℕ) where
 
   pub hides-fresh : Fresh g (hides g (c + 1))
   unfolding hides
-  hides-fresh =
-      gather-fresh (hidden g (c + 1)) g R.tidy (c + 1) picked (λ k h y m. let v = hidden-picks g R c k h in others-within g R k v.0 v.1 m) g.plan.N
+  hides-fresh = chosen-fresh R.tidy (c + 1) (hidden g (c + 1)) (hidden-inside g (c + 1)) R.whole g.plan.N
 
   -- so the lists are tidy then
   pub hiding-tidy : Tidy (hiding g c)

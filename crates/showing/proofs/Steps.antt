@@ -33,10 +33,6 @@ use Rattle.showing.proofs.Masks.{row_same, row-emptied, row-without, shown-each}
 use Rattle.showing.proofs.Columns.{column-holds}
 use Rattle.showing.proofs.Deleting.{In-deletes, deletes-In}
 
--- the state of a ground from which nodes were taken out
-pub state-taken : (g : Ground) (xs : List ℕ) → state_of (taken g xs) ≡ shown g.plan (taken g xs).on
-state-taken g xs = ap (λ (P : Plan). shown P (taken g xs).on) (taken-plan g xs)
-
 -- three ways that the mask's test can go
 and-stays : (a b : Bool) → (a ≡ true → b ≡ false) → (a && (not b && true)) ≡ a
 and-stays true b h = rw (h refl)
