@@ -38,7 +38,13 @@ pub alive-less : (h : Ground) (marks : List ℕ) (r np : ℕ) (heads : List ℤ)
 alive-less h marks r np heads i a k n j hd le not_own some = ⊎_elim own other (read_set heads i (pos (item_of (head heads i) - 1)) (pos 0) j k)
   where
     own : (j ≡ i) × (head (set heads i (pos (item_of (head heads i) - 1))) j ≡ pos (item_of (head heads i) - 1)) → 0 < item_of (head (set heads i (pos (item_of (head heads i) - 1))) j)
-    own w = rw w.1 (let c : item_of (head heads i) - 1 ≢ 0 = λ z. false≢true (sym n ∙ rw (eq-eqb (item_of (head heads i) - 1) 0 z, le-leb i np (omega (arith, le, w.0)), ne_eqb (at marks i) r (λ q. not_own (ap (at marks) w.0 ∙ q)))) in omega arith)
+    own w = rw w.1 (let c : item_of (head heads i) - 1 ≢ 0 =
+        λ z. false≢true (sym n ∙ rw (
+          eq-eqb (item_of (head heads i) - 1) 0 z,
+          le-leb i np (omega (arith, le, w.0)),
+          ne_eqb (at marks i) r
+              (λ q. not_own (ap (at marks) w.0 ∙ q)),
+        )) in omega arith)
 
     other : (j ≢ i) × (head (set heads i (pos (item_of (head heads i) - 1))) j ≡ head heads j) → 0 < item_of (head (set heads i (pos (item_of (head heads i) - 1))) j)
     other w = rw w.1 (a j hd le not_own some)
@@ -86,7 +92,8 @@ module _ {h : Ground} {tints marks : List ℕ} {r s np : ℕ} {heads : List ℤ}
         col = rival.1;
         alive = m.alive;
         holds = subst (λ (G : Ground). Holds G heads up down)
-            (ap (λ (k : ℕ). taken (ground_to h r q p) (walked (ground_to h r q p) p k)) e ∙ ap (taken (ground_to h r q p)) same-others ∙ after_more (ground_at h r q) (rivals_to h r q p) (others (ground_at h r q) p) ∙ ap (taken (ground_at h r q)) (sym one_more))
+            (ap (λ (k : ℕ). taken (ground_to h r q p) (walked (ground_to h r q p) p k)) e ∙ ap (taken (ground_to h r q p)) same-others
+            ∙ after_more (ground_at h r q) (rivals_to h r q p) (others (ground_at h r q) p) ∙ ap (taken (ground_at h r q)) (sym one_more))
             m.holds;
       }
 

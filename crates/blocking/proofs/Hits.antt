@@ -60,7 +60,8 @@ module _ (h : Ground) (r : ℕ) (w : Tested h r) where
   hit-clashes y k =
       any← (λ q. any (λ p. h.on p && eqb (h.plan.col p) (h.plan.col q) && not (agree (h.plan.tint q) (h.plan.tint p))) (span (lo h.plan y) (hi h.plan y))) (others h r) k.clash.among
       (any← (λ p. h.on p && eqb (h.plan.col p) (h.plan.col k.clash.item) && not (agree (h.plan.tint k.clash.item) (h.plan.tint p))) (span (lo h.plan y) (hi h.plan y))
-      (span-In (lo h.plan y) (hi h.plan y) (subst (λ (j : ℕ). h.plan.first j ≤ k.at) (sym k.number) k.clash.entry.from) (subst (λ (j : ℕ). k.at < h.plan.past j) (sym k.number) k.clash.entry.till))
+      (span-In (lo h.plan y) (hi h.plan y) (subst (λ (j : ℕ). h.plan.first j ≤ k.at) (sym k.number) k.clash.entry.from)
+      (subst (λ (j : ℕ). k.at < h.plan.past j) (sym k.number) k.clash.entry.till))
       (rw (k.clash.on, eq-eqb (h.plan.col k.at) (h.plan.col k.clash.item) k.clash.col, k.clash.differ) tt))
 
   pub clashes-hit : (y : ℕ) → EntryOf h.plan y → T (clashes_at h r y) → Hit h r y

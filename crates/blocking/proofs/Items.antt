@@ -128,7 +128,8 @@ module _ {h : Ground} {tints marks : List ℕ} {r s np : ℕ} {heads : List ℤ}
               on = rw b (down-stand column (h.plan.col q) stand).on;
               col = rw b (down-stand column (h.plan.col q) stand).col;
               alive = m.alive;
-              holds = subst (λ (xs : List ℕ). Holds (taken (ground_at h r q) xs) heads up down) (sym (nothing p b)) (record { heads-are = m.holds.heads-are; up-are = m.holds.up-are; down-are = m.holds.down-are });
+              holds = subst (λ (xs : List ℕ). Holds (taken (ground_at h r q) xs) heads up down) (sym (nothing p b))
+                  (record { heads-are = m.holds.heads-are; up-are = m.holds.up-are; down-are = m.holds.down-are });
             }
           where
             rival : ℕ → Bool

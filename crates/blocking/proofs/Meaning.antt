@@ -105,7 +105,8 @@ module _ {h : Ground} {tints marks : List ℕ} {r s np : ℕ} {heads : List ℤ}
 
   -- r does not hold its item: it would carry r's mark, or r be left in the column beside qq
   not-held : (z : ℕ) → In z (span (lo h.plan r) (hi h.plan r)) → T (not (holds_at h r i z))
-  not-held z n = not_T (holds_at h r i z) (λ c. let v = T_and (full h.heads z) (eqb (h.plan.col z) i) c in ⊎_elim (own (eqb→eq (h.plan.col z) i v.1)) (other v.0 (eqb→eq (h.plan.col z) i v.1)) (same? z r))
+  not-held z n = not_T (holds_at h r i z)
+      (λ c. let v = T_and (full h.heads z) (eqb (h.plan.col z) i) c in ⊎_elim (own (eqb→eq (h.plan.col z) i v.1)) (other v.0 (eqb→eq (h.plan.col z) i v.1)) (same? z r))
     where
       place : (lo h.plan r ≤ z) × (z < hi h.plan r)
       place = In-span (lo h.plan r) (hi h.plan r) n
@@ -141,7 +142,8 @@ module _ {h : Ground} {tints marks : List ℕ} {r s np : ℕ} {heads : List ℤ}
   shut : T (shut_at h r i)
   shut =
       and_T (not (any (holds_at h r i) (span (lo h.plan r) (hi h.plan r))) && any (in_column h i) (nodes_of h)) (all (λ y. not (in_column h i y) || clashes_at h r y) (nodes_of h))
-      (and_T (not (any (holds_at h r i) (span (lo h.plan r) (hi h.plan r)))) (any (in_column h i) (nodes_of h)) (any_none (holds_at h r i) (span (lo h.plan r) (hi h.plan r)) not-held) some-there)
+      (and_T (not (any (holds_at h r i) (span (lo h.plan r) (hi h.plan r)))) (any (in_column h i) (nodes_of h))
+      (any_none (holds_at h r i) (span (lo h.plan r) (hi h.plan r)) not-held) some-there)
       (all← (λ y. not (in_column h i y) || clashes_at h r y) (nodes_of h) all-clash)
 
   pub stopped-blocked : node_blocked h r np ≡ true
@@ -159,7 +161,8 @@ module _ {h : Ground} {tints marks : List ℕ} {r s np : ℕ} {heads : List ℤ}
   out-tidy : Tidy (ground_at h r r)
   out-tidy = after-tidy h (out_at h r r) tidy m.stage.fresh
 
-  module _ (i : ℕ) (head_of : Header h.plan i) (le : i ≤ np) (free : (z : ℕ) → EntryOf h.plan z → h.plan.number z ≡ h.plan.number r → head h.heads z ≡ pos (h.plan.col z) → h.plan.col z ≢ i) where
+  module _ (i : ℕ) (head_of : Header h.plan i) (le : i ≤ np)
+      (free : (z : ℕ) → EntryOf h.plan z → h.plan.number z ≡ h.plan.number r → head h.heads z ≡ pos (h.plan.col z) → h.plan.col z ≢ i) where
     -- an entry of the column whose option clashes is out
     clashing-out : (y : ℕ) → EntryOf h.plan y → h.on y ≡ true → h.plan.col y ≡ i → Hit h r y → In y (out_at h r r)
     unfolding others
@@ -196,7 +199,8 @@ module _ {h : Ground} {tints marks : List ℕ} {r s np : ℕ} {heads : List ℤ}
       free : (z : ℕ) → EntryOf h.plan z → h.plan.number z ≡ h.plan.number r → head h.heads z ≡ pos (h.plan.col z) → h.plan.col z ≢ i
       free z e n f d =
           T_not (holds_at h r i z)
-          (none_any (holds_at h r i) (span (lo h.plan r) (hi h.plan r)) firsts.0 (span-In (lo h.plan r) (hi h.plan r) (subst (λ (j : ℕ). h.plan.first j ≤ z) n e.from) (subst (λ (j : ℕ). z < h.plan.past j) n e.till)))
+          (none_any (holds_at h r i) (span (lo h.plan r) (hi h.plan r)) firsts.0
+          (span-In (lo h.plan r) (hi h.plan r) (subst (λ (j : ℕ). h.plan.first j ≤ z) n e.from) (subst (λ (j : ℕ). z < h.plan.past j) n e.till)))
           (and_T (full h.heads z) (eqb (h.plan.col z) i) (head-full h tidy z e f) (eq→eqb (h.plan.col z) i d))
 
       -- an entry that was there
@@ -215,20 +219,25 @@ module _ {h : Ground} {tints marks : List ℕ} {r s np : ℕ} {heads : List ℤ}
       was-some : 0 < length_of h i
       was-some =
           let l = ap item_of (tidy.counts i head_of (tested.headers i head_of)) in
-          let u : 0 < tally h.plan h.on i = subst (λ (j : ℕ). 0 < tally h.plan h.on j) one_in.1 (tally-some h.plan h.on one.0 one_in.2 (entry-till h.plan tidy.planned one.0 one_entry) one_in.0) in
+          let u : 0 < tally h.plan h.on i =
+          subst (λ (j : ℕ). 0 < tally h.plan h.on j) one_in.1 (tally-some h.plan h.on one.0 one_in.2 (entry-till h.plan tidy.planned one.0 one_entry) one_in.0) in
           omega arith
 
       left-some : 0 < tally h.plan (ground_at h r r).on i
       left-some =
           let u = m.alive i head_of b unmarked was-some in
-          let l : item_of (head heads i) ≡ tally h.plan (ground_at h r r).on i = ap (λ (v : List ℤ). item_of (head v i)) m.holds.heads-are ∙ ap item_of (out-tidy.counts i head_of (taken-header h (out_at h r r) tidy m.stage.fresh i head_of ∙ tested.headers i head_of)) in
+          let l : item_of (head heads i) ≡ tally h.plan (ground_at h r r).on i =
+          ap (λ (v : List ℤ). item_of (head v i)) m.holds.heads-are
+          ∙ ap item_of (out-tidy.counts i head_of (taken-header h (out_at h r r) tidy m.stage.fresh i head_of ∙ tested.headers i head_of)) in
           omega arith
 
       last-left : (y : ℕ) × (start h.plan ≤ y) × (y < h.plan.N) × ((ground_at h r r).on y ≡ true) × (h.plan.col y ≡ i) → ⊥
       last-left (y, u, v, o, e) =
           let k = on-taken h (out_at h r r) y o in
           let n = on-entry h tidy y k.0 u in
-          k.1 (clashing-out i head_of b free y n k.0 e (clashes-hit h r tested y n (T-imp (in_column h i y) (clashes_at h r y) (all→ (λ y. not (in_column h i y) || clashes_at h r y) (nodes_of h) parts.1 (span-In (start h.plan) h.plan.N u v)) (true-T (column← h i y k.0 e u)))))
+          k.1 (clashing-out i head_of b free y n k.0 e
+          (clashes-hit h r tested y n (T-imp (in_column h i y) (clashes_at h r y)
+          (all→ (λ y. not (in_column h i y) || clashes_at h r y) (nodes_of h) parts.1 (span-In (start h.plan) h.plan.N u v)) (true-T (column← h i y k.0 e u)))))
 
   pub round-free : node_blocked h r np ≡ false
   unfolding node_blocked

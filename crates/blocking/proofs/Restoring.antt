@@ -18,7 +18,8 @@ use Rattle.blocking.proofs.Stages.{item-entry, ground-tidy, rivals-fresh}
 use Rattle.blocking.proofs.Entries.{to-tidy, row}
 
 -- The walk stopped at node q of r's option, or came round: `backup` from the node before.
-module _ {h : Ground} {tints marks : List ℕ} {r s np : ℕ} (q : ℕ) (w : Test h tints marks r s np) (from : lo h.plan r ≤ q) (till : q ≤ hi h.plan r) (f : Fresh h (out_at h r q)) {heads : List ℤ} {up down : List ℕ}
+module _ {h : Ground} {tints marks : List ℕ} {r s np : ℕ} (q : ℕ) (w : Test h tints marks r s np) (from : lo h.plan r ≤ q) (till : q ≤ hi h.plan r)
+    (f : Fresh h (out_at h r q)) {heads : List ℤ} {up down : List ℕ}
     (l : Holds (taken h (out_at h r q)) heads up down) where
   pub place-some : 0 < q
   place-some = omega (arith, from, w.tested.tidy.planned.from (h.plan.number r) w.tested.entry.option)

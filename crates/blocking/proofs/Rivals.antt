@@ -41,7 +41,8 @@ module _ {h : Ground} {tints marks : List ℕ} {r s np q : ℕ} (m : AtItem h ti
   out-more : out_at h r (q + 1) ≡ out_at h r q ++ rivals (ground_at h r q) q
   out-more = ap (testing h) walked_more ∙ testing-more h (walked h r q) q
 
-  pub next-item : (heads : List ℤ) (up down : List ℕ) → Alive h marks r np heads → Holds (taken (ground_at h r q) (rivals (ground_at h r q) q)) heads up down → Outer h tints marks r s np (q + 1) heads up down
+  pub next-item : (heads : List ℤ) (up down : List ℕ) → Alive h marks r np heads → Holds (taken (ground_at h r q) (rivals (ground_at h r q) q)) heads up down
+      → Outer h tints marks r s np (q + 1) heads up down
   next-item heads up down a l = record {
     test = m.test;
     from = omega (arith, m.from);
@@ -102,7 +103,8 @@ module _ {h : Ground} {tints marks : List ℕ} {r s np : ℕ} {heads : List ℤ}
           till = w.till;
           fresh = subst (λ (xs : List ℕ). Fresh (ground_to h r q p) xs) (sym n) tt;
           alive = m.alive;
-          holds = subst (λ (xs : List ℕ). Holds (taken (ground_to h r q p) xs) heads up down) (sym n) (record { heads-are = held-here.heads-are; up-are = held-here.up-are; down-are = held-here.down-are });
+          holds = subst (λ (xs : List ℕ). Holds (taken (ground_to h r q p) xs) heads up down) (sym n)
+              (record { heads-are = held-here.heads-are; up-are = held-here.up-are; down-are = held-here.down-are });
         }
       where
         to-tidy : Tidy (ground_to h r q p)
@@ -118,7 +120,8 @@ module _ {h : Ground} {tints marks : List ℕ} {r s np : ℕ} {heads : List ℤ}
       alive = m.alive;
       holds = subst (λ (xs : List ℕ). Holds (taken (ground_at h r q) xs) heads up down)
           (sym (gather_none (rival_at (ground_at h r q) (h.plan.col q) (h.plan.tint q)) (ground_at h r q) p
-          (not_so (rival_at (ground_at h r q) (h.plan.col q) (h.plan.tint q) p) (λ o. false≢true (sym (rival→ (ground_at h r q) (h.plan.col q) (h.plan.tint q) p o).3 ∙ sym same-colours ∙ not-false (agree (at tints q) (at tints p)) c)))))
+          (not_so (rival_at (ground_at h r q) (h.plan.col q) (h.plan.tint q) p)
+          (λ o. false≢true (sym (rival→ (ground_at h r q) (h.plan.col q) (h.plan.tint q) p o).3 ∙ sym same-colours ∙ not-false (agree (at tints q) (at tints p)) c)))))
           held-here;
     }
 

@@ -118,7 +118,8 @@ module _ {h : Ground} {tints marks : List ℕ} {r s np q : ℕ} (m : AtItem h ti
   stage-more = record {
     fresh = after-fresh h (out_at h r q) (rivals (ground_at h r q) q) m.stage.fresh (rivals-fresh h.plan.N);
     out = λ y i. ⊎_elim (λ a. out-more (walked h r q) (q ∷ []) (out_at h r q) (rivals (ground_at h r q) q) (m.stage.out y a)) (λ b. fresh-out y b) (In-append (out_at h r q) i);
-    met = λ p c. ⊎_elim (λ a. earlier p (record { item = c.item; among = a; entry = c.entry; on = c.on; col = c.col; differ = c.differ })) (λ b. here-met p c (In-one b)) (In-append (walked h r q) c.among);
+    met = λ p c. ⊎_elim (λ a. earlier p (record { item = c.item; among = a; entry = c.entry; on = c.on; col = c.col; differ = c.differ }))
+        (λ b. here-met p c (In-one b)) (In-append (walked h r q) c.among);
   }
     where
       fresh-out : (y : ℕ) → In y (rivals (ground_at h r q) q) → Out h (walked h r q ++ (q ∷ [])) (out_at h r q ++ rivals (ground_at h r q) q) y
@@ -128,17 +129,25 @@ module _ {h : Ground} {tints marks : List ℕ} {r s np q : ℕ} (m : AtItem h ti
             met = w.0;
             clash = rival-clash w.0 w.2 (In-append-r (walked h r q) (here refl));
             one = subst (λ (l : List ℕ). In y l) (rival-others w.0 w.2) w.3;
-            all = λ z n. In-append-r (out_at h r q) (gather-In (rival_at (ground_at h r q) (h.plan.col q) (h.plan.tint q)) (ground_at h r q) h.plan.N w.0 w.1 w.2 (subst (λ (l : List ℕ). In z l) (sym (rival-others w.0 w.2)) n));
+            all = λ z n. In-append-r (out_at h r q)
+                (gather-In (rival_at (ground_at h r q) (h.plan.col q) (h.plan.tint q)) (ground_at h r q) h.plan.N w.0 w.1 w.2
+                (subst (λ (l : List ℕ). In z l) (sym (rival-others w.0 w.2)) n));
           }
 
       earlier : (p : ℕ) → Clash h (walked h r q) p → In p (out_at h r q ++ rivals (ground_at h r q) q) ⊎ ((z : ℕ) → In z (others h p) → In z (out_at h r q ++ rivals (ground_at h r q) q))
       earlier p c = ⊎_elim (λ i. inl (In-append-l (rivals (ground_at h r q) q) i)) (λ f. inr (λ z n. In-append-l (rivals (ground_at h r q) q) (f z n))) (m.stage.met p c)
 
-      here-met : (p : ℕ) → (c : Clash h (walked h r q ++ (q ∷ [])) p) → c.item ≡ q → In p (out_at h r q ++ rivals (ground_at h r q) q) ⊎ ((z : ℕ) → In z (others h p) → In z (out_at h r q ++ rivals (ground_at h r q) q))
+      here-met : (p : ℕ) → (c : Clash h (walked h r q ++ (q ∷ [])) p) → c.item ≡ q → In p (out_at h r q ++ rivals (ground_at h r q) q)
+          ⊎ ((z : ℕ) → In z (others h p) → In z (out_at h r q ++ rivals (ground_at h r q) q))
       here-met p c a = go ((taken h (out_at h r q)).on p) refl
         where
-          go : (b : Bool) → (taken h (out_at h r q)).on p ≡ b → In p (out_at h r q ++ rivals (ground_at h r q) q) ⊎ ((z : ℕ) → In z (others h p) → In z (out_at h r q ++ rivals (ground_at h r q) q))
+          go : (b : Bool) → (taken h (out_at h r q)).on p ≡ b → In p (out_at h r q ++ rivals (ground_at h r q) q)
+              ⊎ ((z : ℕ) → In z (others h p) → In z (out_at h r q ++ rivals (ground_at h r q) q))
           go false o = inl (In-append-l (rivals (ground_at h r q) q) (gone-In h (out_at h r q) p c.on o))
           go true o =
-              let k : rival_at (ground_at h r q) (h.plan.col q) (h.plan.tint q) p ≡ true = rival← (ground_at h r q) (h.plan.col q) (h.plan.tint q) p o (c.col ∙ ap h.plan.col a) (entry-from h.plan t.planned p c.entry) (ap (λ (j : ℕ). agree (h.plan.tint j) (h.plan.tint p)) (sym a) ∙ c.differ) in
-              inr (λ z n. In-append-r (out_at h r q) (gather-In (rival_at (ground_at h r q) (h.plan.col q) (h.plan.tint q)) (ground_at h r q) h.plan.N p (entry-till h.plan t.planned p c.entry) k (subst (λ (l : List ℕ). In z l) (sym (rival-others p k)) n)))
+              let k : rival_at (ground_at h r q) (h.plan.col q) (h.plan.tint q) p ≡ true =
+              rival← (ground_at h r q) (h.plan.col q) (h.plan.tint q) p o (c.col ∙ ap h.plan.col a) (entry-from h.plan t.planned p c.entry)
+              (ap (λ (j : ℕ). agree (h.plan.tint j) (h.plan.tint p)) (sym a) ∙ c.differ) in
+              inr (λ z n. In-append-r (out_at h r q)
+              (gather-In (rival_at (ground_at h r q) (h.plan.col q) (h.plan.tint q)) (ground_at h r q) h.plan.N p (entry-till h.plan t.planned p c.entry) k
+              (subst (λ (l : List ℕ). In z l) (sym (rival-others p k)) n)))

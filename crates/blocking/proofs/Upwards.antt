@@ -154,7 +154,8 @@ module _ {g : Ground} {tints : List ℕ} {p x s : ℕ} {heads : List ℤ} {up do
   step-up a = subst (λ (j : ℕ). Below g tints j x s heads up down) (sym a) stepped
 
 -- From the header i the link up leads to the lowest node of a column of which all rivals are out.
-module _ (g : Ground) (tints : List ℕ) (i x s : ℕ) (t : Tidy g) (head_of : Header g.plan i) (o : g.on i ≡ true) (f : Fresh g (gather_to (rival_at g i x) g g.plan.N)) (heads : List ℤ) (up down : List ℕ)
+module _ (g : Ground) (tints : List ℕ) (i x s : ℕ) (t : Tidy g) (head_of : Header g.plan i) (o : g.on i ≡ true) (f : Fresh g (gather_to (rival_at g i x) g g.plan.N))
+    (heads : List ℤ) (up down : List ℕ)
     (l : Holds (taken g (gather_to (rival_at g i x) g g.plan.N)) heads up down) where
   abbrev all : List ℕ
   all = gather_to (rival_at g i x) g g.plan.N

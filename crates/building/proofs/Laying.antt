@@ -1,6 +1,7 @@
 -- Laying out the nodes of a plan one after another: from cleared headers, entry by entry, boundary by boundary, until the lists are tidy.
 -- Assumes nothing.
-use Rattle.std.proofs.Common.{◌≡◌, ℕ, ◌+◌, ◌-◌, ◌<◌, ◌≤◌, Bool, true, false, ◌≢◌, List, length, set, ℤ, pos, negsuc, sym, refl, ap, ◌∙◌, subst, inl, inr, ⊎_elim, arith, length-set, get_or-set_other, get_or-set_same, lt-length-set}
+use Rattle.std.proofs.Common.{◌≡◌, ℕ, ◌+◌, ◌-◌, ◌<◌, ◌≤◌, Bool, true, false, ◌≢◌, List, length, set, ℤ}
+use Rattle.std.proofs.Common.{pos, negsuc, sym, refl, ap, ◌∙◌, subst, inl, inr, ⊎_elim, arith, length-set, get_or-set_other, get_or-set_same, lt-length-set}
 use Rattle.rules.specs.Bounds.{node_bound}
 use Rattle.links.specs.Head.{item_of, below_zero, head, Growing}
 use Rattle.links.specs.Column.{at, without, Tied, Ring}
@@ -123,7 +124,8 @@ module _ (P : Plan) (W : Planned P) where
       before-kept k l row = (
         (λ q. before-no-entry P W k l row (subst (λ (y : ℕ). EntryOf P y) (sym q) e)),
         (λ q. before-no-header P W k l row (subst (λ (y : ℕ). Header P y) (sym q) c-header)),
-        (λ q. ⊎_elim (before-no-header P W k l row) (before-no-entry P W k l row) (every→ P (P.first k - 1) (ap (every P) q ∙ (below→ P x (at up (P.col x)) (L.ring.tied (P.col x) c-on).above_on).0))),
+        (λ q. ⊎_elim (before-no-header P W k l row) (before-no-entry P W k l row)
+            (every→ P (P.first k - 1) (ap (every P) q ∙ (below→ P x (at up (P.col x)) (L.ring.tied (P.col x) c-on).above_on).0))),
       )
 
       past-kept : (k : ℕ) → k < P.M → P.first k < P.past k → (P.past k ≢ x) × (P.past k ≢ P.col x)
@@ -225,7 +227,8 @@ module _ (P : Plan) (W : Planned P) where
       to_last = get_or-set_same down (P.first k - 1) (P.past k - 1) 0 (omega (arith, W.till k l row, L.ring.downs));
     }
 
-    old-edge : (j : ℕ) → j < P.M → P.first j < P.past j → P.past j < P.past k → Closed P j (set heads (P.past k) (negsuc k)) (set up (P.past k) (P.first k)) (set down (P.first k - 1) (P.past k - 1))
+    old-edge : (j : ℕ) → j < P.M → P.first j < P.past j → P.past j < P.past k
+        → Closed P j (set heads (P.past k) (negsuc k)) (set up (P.past k) (P.first k)) (set down (P.first k - 1) (P.past k - 1))
     old-edge j m r s =
         let c = L.edge j m r s in
         let earlier : P.past j < P.first k = ⊎_elim (λ (q : j < k). W.apart j k q l r row) (λ (q : k ≤ j). late q) (less? j k) in
@@ -238,8 +241,11 @@ module _ (P : Plan) (W : Planned P) where
         late : k ≤ j → P.past j < P.first k
         late q = ⊎_elim (λ (e : k ≡ j). absurd (omega (arith, s, ap P.past e))) (λ n. absurd (omega (arith, W.apart k j (omega (arith, q, n)) m row r, r, s))) (same? k j)
 
-    edge-close : (j : ℕ) → j < P.M → P.first j < P.past j → P.past j < P.past k + 1 → Closed P j (set heads (P.past k) (negsuc k)) (set up (P.past k) (P.first k)) (set down (P.first k - 1) (P.past k - 1))
-    edge-close j m r s = ⊎_elim (λ (e : j ≡ k). rw e own-edge) (λ n. old-edge j m r (⊎_elim (λ (q : j < k). omega (arith, W.apart j k q l r row, row)) (λ q. absurd (omega (arith, W.apart k j (omega (arith, q, n)) m row r, r, s))) (less? j k))) (same? j k)
+    edge-close : (j : ℕ) → j < P.M → P.first j < P.past j → P.past j < P.past k + 1
+        → Closed P j (set heads (P.past k) (negsuc k)) (set up (P.past k) (P.first k)) (set down (P.first k - 1) (P.past k - 1))
+    edge-close j m r s = ⊎_elim (λ (e : j ≡ k). rw e own-edge)
+        (λ n. old-edge j m r (⊎_elim (λ (q : j < k). omega (arith, W.apart j k q l r row, row))
+        (λ q. absurd (omega (arith, W.apart k j (omega (arith, q, n)) m row r, r, s))) (less? j k))) (same? j k)
 
     pub laid-close : Laid P (P.past k + 1) (set heads (P.past k) (negsuc k)) (set up (P.past k) (P.first k)) (set down (P.first k - 1) (P.past k - 1)) tints
     laid-close = record {

@@ -151,7 +151,8 @@ module _ (n : ℕ) (s : State) (small : first_node (n + 2) s (length s) < node_b
       let o = option_at s (number_at (n + 2) s y) in
       let l : j z f < length (items_of o) = rw length-map (subst (λ (x : ℕ). j z f < length (option_at s x)) i (j-in z f)) in
       let m : j y e < length (items_of o) = rw length-map (j-in y e) in
-      let u : get_or (items_of o) (j z f) 0 ≡ (node_entry (n + 2) s z).item = subst (λ (x : ℕ). get_or (items_of (option_at s x)) (j z f) 0 ≡ (node_entry (n + 2) s z).item) i (item-at z f) in
+      let u : get_or (items_of o) (j z f) 0 ≡ (node_entry (n + 2) s z).item =
+      subst (λ (x : ℕ). get_or (items_of (option_at s x)) (j z f) 0 ≡ (node_entry (n + 2) s z).item) i (item-at z f) in
       let p : j y e ≡ j z f = get_or-inj (items_of o) (once o (option-in (number_at (n + 2) s y) (k-in y e))) m l (item-at y e ∙ v ∙ sym u) in
       let g : first_node (n + 2) s (number_at (n + 2) s z) ≡ first_node (n + 2) s (number_at (n + 2) s y) = ap (first_node (n + 2) s) i in
       omega (arith, p, g, e.from, f.from)
@@ -162,7 +163,8 @@ module _ (n : ℕ) (s : State) (small : first_node (n + 2) s (length s) < node_b
     small = small;
     options-small = few;
     room = first_above (n + 2) s (length s);
-    low = λ x. ⊎_elim (λ h. rw (lt-ltb x (n + 2) h) (omega arith)) (λ h. let i = item-of (number_at (n + 2) s x) (x - first_node (n + 2) s (number_at (n + 2) s x)) in rw (le-ltb x (n + 2) h) (omega arith)) (less? x (n + 2));
+    low = λ x. ⊎_elim (λ h. rw (lt-ltb x (n + 2) h) (omega arith))
+        (λ h. let i = item-of (number_at (n + 2) s x) (x - first_node (n + 2) s (number_at (n + 2) s x)) in rw (le-ltb x (n + 2) h) (omega arith)) (less? x (n + 2));
     header = λ i h. let l = h.below in rw (lt-ltb i (n + 2) (omega arith));
     entry = col-header;
     from = λ k h. first_above (n + 2) s k;
@@ -174,10 +176,12 @@ module _ (n : ℕ) (s : State) (small : first_node (n + 2) s (length s) < node_b
   }
 
   -- what the plan has at place j of option k
-  pub spelled-col : (k j : ℕ) → k < length s → j < length (option_at s k) → (plan_for n s).col (first_node (n + 2) s k + j) ≡ (get_or (option_at s k) j (record { item = 0; colour = 0 })).item + 1
+  pub spelled-col : (k j : ℕ) → k < length s → j < length (option_at s k)
+      → (plan_for n s).col (first_node (n + 2) s k + j) ≡ (get_or (option_at s k) j (record { item = 0; colour = 0 })).item + 1
   spelled-col k j h l = let f = first_above (n + 2) s k in col-is (first_node (n + 2) s k + j) (omega arith) ∙ ap (λ (d : Entry). d.item + 1) (node-is (n + 2) s k j h l)
 
-  pub spelled-tint : (k j : ℕ) → k < length s → j < length (option_at s k) → (plan_for n s).tint (first_node (n + 2) s k + j) ≡ (get_or (option_at s k) j (record { item = 0; colour = 0 })).colour
+  pub spelled-tint : (k j : ℕ) → k < length s → j < length (option_at s k)
+      → (plan_for n s).tint (first_node (n + 2) s k + j) ≡ (get_or (option_at s k) j (record { item = 0; colour = 0 })).colour
   unfolding plan_for
   spelled-tint k j h l = ap (λ (d : Entry). d.colour) (node-is (n + 2) s k j h l)
 
@@ -192,7 +196,8 @@ module _ (n : ℕ) (s : State) (small : first_node (n + 2) s (length s) < node_b
       let f = first_node (n + 2) s k in
       let d : f + length (option_at s k) - f ≡ length (option_at s k) = omega arith in
       let whole : row_of (plan_for n s) (every (plan_for n s)) k ≡ span f (f + length (option_at s k)) =
-      keep_all (every (plan_for n s)) (span f (f + length (option_at s k))) (λ y m. let w = In-span f (f + length (option_at s k)) m in true-T (entry-every (plan_for n s) y (row-entry (plan_for n s) planned-for k y h w.0 w.1))) in
+      keep_all (every (plan_for n s)) (span f (f + length (option_at s k)))
+      (λ y m. let w = In-span f (f + length (option_at s k)) m in true-T (entry-every (plan_for n s) y (row-entry (plan_for n s) planned-for k y h w.0 w.1))) in
       ap (map (entry_at (plan_for n s))) (whole ∙ ap (from f) d)
       ∙ map_row (record { item = 0; colour = 0 }) (entry_at (plan_for n s)) f (option_at s k) (λ j l. shows-entry k j h l)
     where
@@ -206,4 +211,5 @@ module _ (n : ℕ) (s : State) (small : first_node (n + 2) s (length s) < node_b
 
   pub shows-state : shown (plan_for n s) (every (plan_for n s)) ≡ s
   unfolding shown plan_for
-  shows-state = map_row [] (shown_row (plan_for n s) (every (plan_for n s))) 0 s (λ k h. let z : 0 + k ≡ k = omega arith in ap (shown_row (plan_for n s) (every (plan_for n s))) z ∙ shows-row k h)
+  shows-state = map_row [] (shown_row (plan_for n s) (every (plan_for n s))) 0 s
+      (λ k h. let z : 0 + k ≡ k = omega arith in ap (shown_row (plan_for n s) (every (plan_for n s))) z ∙ shows-row k h)

@@ -1,6 +1,7 @@
 -- The nodes are laid out with the ways down from the last nodes left open, and closed when all are there: the lists are then those that would
 -- have been written at once. Assumes nothing.
-use Rattle.std.proofs.Common.{◌≡◌, ℕ, zero, suc, ◌+◌, ◌-◌, ◌<◌, ◌≤◌, ◌≢◌, ◌⊎◌, List, length, set, ℤ, negsuc, sym, refl, ap, ◌∙◌, subst, inl, inr, ⊎_elim, arith, length-set, get_or-set_other, get_or-set_same, ext_get_or, lt-length-set}
+use Rattle.std.proofs.Common.{◌≡◌, ℕ, zero, suc, ◌+◌, ◌-◌, ◌<◌, ◌≤◌, ◌≢◌, ◌⊎◌, List, length, set, ℤ}
+use Rattle.std.proofs.Common.{negsuc, sym, refl, ap, ◌∙◌, subst, inl, inr, ⊎_elim, arith, length-set, get_or-set_other, get_or-set_same, ext_get_or, lt-length-set}
 use Rattle.links.specs.Column.{at, Tied}
 use Rattle.links.specs.Plan.{Plan, start, EntryOf, Header, Planned}
 use Rattle.links.proofs.Stores.{same?}
@@ -71,7 +72,8 @@ module _ (P : Plan) (W : Planned P) (x : ℕ) (heads : List ℤ) (up down tints 
     closed = end_down up O.closed c x;
     laid = laid-entry P W x heads up O.closed tints O.laid e;
     long = simp length-set O.long;
-    same = λ y. ⊎_elim (λ r. inr (record { column = c; header = c-header; behind = c-header.above; there = r ∙ sym up-head })) (λ n. ⊎_elim (λ r. inl (rw r same-last)) (λ m. other y n m (O.same y)) (same? y q)) (same? y x);
+    same = λ y. ⊎_elim (λ r. inr (record { column = c; header = c-header; behind = c-header.above; there = r ∙ sym up-head }))
+        (λ n. ⊎_elim (λ r. inl (rw r same-last)) (λ m. other y n m (O.same y)) (same? y q)) (same? y x);
   }
 
 -- The boundary after option k.
@@ -92,7 +94,8 @@ module _ (P : Plan) (W : Planned P) (k : ℕ) (l : k < P.M) (row : P.first k < P
     laid = laid-close P W k l row heads up O.closed tints O.laid;
     long = simp length-set O.long;
     same = λ y.
-        ⊎_elim (λ r. inl (rw r (get_or-set_same down (P.first k - 1) (P.past k - 1) 0 (omega (arith, in-closed, O.long)) ∙ sym (get_or-set_same O.closed (P.first k - 1) (P.past k - 1) 0 in-closed))))
+        ⊎_elim (λ r. inl (rw r (get_or-set_same down (P.first k - 1) (P.past k - 1) 0 (omega (arith, in-closed, O.long))
+        ∙ sym (get_or-set_same O.closed (P.first k - 1) (P.past k - 1) 0 in-closed))))
         (λ n. beside y n (O.same y)) (same? y (P.first k - 1));
   }
 

@@ -237,7 +237,8 @@ module _ {f : Figures} {np ns n : ℕ} {items colours ends : List ℕ} {heads₀
     )
 
     all_laid : Laid (plan_of a) (plan_of a).N heads up (closing n up down) tints
-    all_laid = subst (λ (i : ℕ). Laid (plan_of a) (plan_of a).N heads up (closing i up down) tints) n-is (open-end (plan_of a) planned (plan_of a).N planned.room heads up tints down all-open)
+    all_laid = subst (λ (i : ℕ). Laid (plan_of a) (plan_of a).N heads up (closing i up down) tints) n-is
+        (open-end (plan_of a) planned (plan_of a).N planned.room heads up tints down all-open)
 
     pub place_end : {down' marks : List ℕ} → down' ≡ closing n up down → ((i : ℕ) → i ≤ n → at marks i ≡ 0) → Built a n (length ends) heads up down' tints marks
     unfolding plan_for

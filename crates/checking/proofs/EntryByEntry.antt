@@ -76,7 +76,8 @@ pub none-marked : (mark : ℕ) (marks : List ℕ) → BelowMark mark marks → S
 none-marked mark marks B i = sym (ne_eqb (get_or marks i 0) mark (λ e. let b = B i in absurd (omega arith)))
 
 module _ (mark item : ℕ) (marks : List ℕ) (h : item < length marks) where
-  at_set : (i : ℕ) → T (eqb i item) ⊎ T (not (eqb i item)) → ((i ≡ item) × (get_or (set marks item mark) i 0 ≡ mark)) ⊎ ((eqb i item ≡ false) × (get_or (set marks item mark) i 0 ≡ get_or marks i 0))
+  at_set : (i : ℕ) → T (eqb i item) ⊎ T (not (eqb i item)) → ((i ≡ item) × (get_or (set marks item mark) i 0 ≡ mark))
+      ⊎ ((eqb i item ≡ false) × (get_or (set marks item mark) i 0 ≡ get_or marks i 0))
   at_set i (inl t) = let e = eqb→eq i item t in inl (e, rw e (get_or-set_same marks item mark 0 h))
   at_set i (inr t) = let n = neqb→ne i item t in inr (ne_eqb i item n, get_or-set_other marks item i mark 0 n)
 

@@ -67,7 +67,8 @@ module _ (f : ℕ → Bool) where
 pub lo-apart : (P : Plan) → Planned P → (x y : ℕ) → EntryOf P x → EntryOf P y → P.number x ≢ P.number y → lo P x ≢ lo P y
 lo-apart P W x y a b n e =
     ⊎_elim (λ (l : P.number x < P.number y). omega (arith, W.apart (P.number x) (P.number y) l b.option (entry_row P W x a) (entry_row P W y b), W.order (P.number x) a.option))
-    (λ (l : P.number y ≤ P.number x). omega (arith, W.apart (P.number y) (P.number x) (omega arith) a.option (entry_row P W y b) (entry_row P W x a), W.order (P.number y) b.option)) (less? (P.number x) (P.number y))
+    (λ (l : P.number y ≤ P.number x). omega
+    (arith, W.apart (P.number y) (P.number x) (omega arith) a.option (entry_row P W y b) (entry_row P W x a), W.order (P.number y) b.option)) (less? (P.number x) (P.number y))
 
 module _ (P : Plan) (W : Planned P) (tints : List ℕ) (r v : ℕ) (e : EntryOf P r) where
   -- a boundary's colour is no entry's
@@ -81,12 +82,14 @@ module _ (P : Plan) (W : Planned P) (tints : List ℕ) (r v : ℕ) (e : EntryOf 
   chain-set z [] h c = c
   chain-set z (x ∷ rs) h c =
       let w = h x (here refl) in
-      let s : at (set tints (lo P r - 1) v) (lo P x - 1) ≡ at tints (lo P x - 1) = get_or-set_other tints (lo P r - 1) (lo P x - 1) v 0 (λ q. lo-apart P W x r w.0 e w.1 (omega (arith, q, W.from (P.number x) w.0.option, W.from (P.number r) e.option))) in
+      let s : at (set tints (lo P r - 1) v) (lo P x - 1) ≡ at tints (lo P x - 1) =
+      get_or-set_other tints (lo P r - 1) (lo P x - 1) v 0 (λ q. lo-apart P W x r w.0 e w.1 (omega (arith, q, W.from (P.number x) w.0.option, W.from (P.number r) e.option))) in
       (c.0, chain-set (at (set tints (lo P r - 1) v) (lo P x - 1)) rs (λ y m. h y (next m)) (subst (λ (u : ℕ). Chain P tints u rs) (sym s) c.1))
 
 -- r at its front
 pub chain-push : (P : Plan) → Planned P → (tints : List ℕ) → Tinted P tints → (z r : ℕ) (rs : List ℕ) → EntryOf P r → ((x : ℕ) → In x rs → EntryOf P x × (P.number x ≢ P.number r))
     → Chain P tints z rs → Chain P (set tints (lo P r - 1) z) r (r ∷ rs)
 chain-push P W tints t z r rs e h c =
-    let s : at (set tints (lo P r - 1) z) (lo P r - 1) ≡ z = get_or-set_same tints (lo P r - 1) z 0 (omega (arith, t.room, e.from, e.till, W.till (P.number r) e.option (entry_row P W r e))) in
+    let s : at (set tints (lo P r - 1) z) (lo P r - 1) ≡ z =
+    get_or-set_same tints (lo P r - 1) z 0 (omega (arith, t.room, e.from, e.till, W.till (P.number r) e.option (entry_row P W r e))) in
     (refl, subst (λ (u : ℕ). Chain P (set tints (lo P r - 1) z) u rs) (sym s) (chain-set P W tints r z e z rs h c))

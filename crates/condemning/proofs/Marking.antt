@@ -79,7 +79,8 @@ module _ (g : Ground) (t : Tidy g) (on : ℕ → Bool) (r : ℕ) (e : EntryOf g.
                 subst (λ (z : ℕ). HeldBy g z y) (sym v) (p.known.names y m o (λ z. n (v ∙ z)))
 
         own : (y : ℕ) → r < y → y < q + 1 → head g.heads y ≡ pos (g.plan.col y) → at (set marks i r) (g.plan.col y) ≡ r
-        own y a c h = ⊎_elim (λ s. ap (at (set marks i r)) (s) ∙ get_or-set_same marks i r 0 i-in) (λ d. get_or-set_other marks i (g.plan.col y) r 0 d ∙ p.own y a (below d) h) (same? (g.plan.col y) i)
+        own y a c h = ⊎_elim (λ s. ap (at (set marks i r)) (s) ∙ get_or-set_same marks i r 0 i-in)
+            (λ d. get_or-set_other marks i (g.plan.col y) r 0 d ∙ p.own y a (below d) h) (same? (g.plan.col y) i)
           where
             below : g.plan.col y ≢ i → y < q
             below d = let n : y ≢ q = λ s. d (ap g.plan.col s) in omega arith
@@ -113,7 +114,9 @@ module _ (g : Ground) (t : Tidy g) (on : ℕ → Bool) (r : ℕ) (e : EntryOf g.
         where
           before : y ≤ r → ⊥
           before a =
-              let f : T (any (full g.heads) (span (lo g.plan r) r)) = any← (full g.heads) (span (lo g.plan r) r) (span-In (lo g.plan r) r (subst (λ (k : ℕ). g.plan.first k ≤ y) s m.from) (omega (arith, a, n))) (lt→ltb 0 (item_of (head g.heads y)) (rw h (W.entry y m).above)) in
+              let f : T (any (full g.heads) (span (lo g.plan r) r)) =
+              any← (full g.heads) (span (lo g.plan r) r) (span-In (lo g.plan r) r (subst (λ (k : ℕ). g.plan.first k ≤ y) s m.from) (omega (arith, a, n)))
+              (lt→ltb 0 (item_of (head g.heads y)) (rw h (W.entry y m).above)) in
               T_not (any (full g.heads) (span (lo g.plan r) r)) (subst T (sym first) tt) f
 
       theirs : (y : ℕ) → EntryOf g.plan y → g.on y ≡ true → at marks (g.plan.col y) ≡ r

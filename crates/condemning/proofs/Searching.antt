@@ -76,7 +76,8 @@ module _ (g : Ground) (R : Ready g) (i : ℕ) where
     pub search-led : {heads : List ℤ} {up down : List ℕ} → Holds (taken g (hides g (i + 1))) heads up down → Led (hiding g i) r heads down
     search-led w = record { tidy = hiding-tidy g R i; entry = entry; heads-are = w.heads-are; down-are = w.down-are }
 
-    pub search-marking : {heads : List ℤ} {up down : List ℕ} → Holds (taken g (hides g (i + 1))) heads up down → first_live g r ≡ true → (marks : List ℕ) → Known g g.on marks → Marking (hiding g i) g.on r heads marks
+    pub search-marking : {heads : List ℤ} {up down : List ℕ} → Holds (taken g (hides g (i + 1))) heads up down → first_live g r ≡ true → (marks : List ℕ)
+        → Known g g.on marks → Marking (hiding g i) g.on r heads marks
     search-marking w f marks k = record {
       tidy = hiding-tidy g R i;
       entry = entry;
@@ -119,7 +120,8 @@ module _ (g : Ground) (R : Ready g) (i : ℕ) where
       others_apart : (x : ℕ) → In x (down_to (condemned_at np i g) r) → EntryOf g.plan x × (g.plan.number x ≢ g.plan.number r)
       others_apart x m =
           let w = In-down (condemned_at np i g) r m in
-          let k = T_true (in_column g (i + 1) x) (T_and (in_column g (i + 1) x) (not (full_before g x) && eqb (g.plan.tint x) 0 && node_blocked (taken g (hides g (i + 1))) x np) (subst T (sym w.1) tt)).0 in
+          let k = T_true (in_column g (i + 1) x)
+          (T_and (in_column g (i + 1) x) (not (full_before g x) && eqb (g.plan.tint x) 0 && node_blocked (taken g (hides g (i + 1))) x np) (subst T (sym w.1) tt)).0 in
           let e = (column-entry g R.tidy (i + 1) x k).0 in
           (e, λ n. omega (arith, w.0, W.once x r e entry n ((column→ g (i + 1) x k).1 ∙ sym (column→ g (i + 1) r c).1)))
 
@@ -141,14 +143,16 @@ module _ (g : Ground) (R : Ready g) (i : ℕ) where
     apart-same a b l n = down-same (condemned_at np i g) a b l (λ k x y. rw (n k x y))
 
     pub search-stand : Stand (hiding g i) (i + 1) (at (hiding g i).down (i + 1))
-    search-stand = stand-next (hiding g i) (hiding-tidy g R i) (i + 1) hd (i + 1) (stand-header (hiding g i) (hiding-tidy g R i) (i + 1) hd (hiding-own g R i (i + 1) (W.header (i + 1) hd) ∙ R.whole.headers (i + 1) hd))
+    search-stand = stand-next (hiding g i) (hiding-tidy g R i) (i + 1) hd (i + 1)
+        (stand-header (hiding g i) (hiding-tidy g R i) (i + 1) hd (hiding-own g R i (i + 1) (W.header (i + 1) hd) ∙ R.whole.headers (i + 1) hd))
 
     at_top : Stand (hiding g i) (i + 1) (i + 1)
     at_top = stand-header (hiding g i) (hiding-tidy g R i) (i + 1) hd (hiding-own g R i (i + 1) (W.header (i + 1) hd) ∙ R.whole.headers (i + 1) hd)
 
     -- nothing is found between a node and the next
     pub next-same : (p : ℕ) → Stand (hiding g i) (i + 1) p → down_to (condemned_at np i g) (reach g.plan (at (hiding g i).down p)) ≡ down_to (condemned_at np i g) (p + 1)
-    next-same p s = apart-same (p + 1) (reach g.plan (at (hiding g i).down p)) (step-far (hiding g i) (hiding-tidy g R i) (i + 1) hd p s).0 (λ k x y. sym (column-same k) ∙ step-gap (hiding g i) (hiding-tidy g R i) (i + 1) hd p s k x y)
+    next-same p s = apart-same (p + 1) (reach g.plan (at (hiding g i).down p)) (step-far (hiding g i) (hiding-tidy g R i) (i + 1) hd p s).0
+        (λ k x y. sym (column-same k) ∙ step-gap (hiding g i) (hiding-tidy g R i) (i + 1) hd p s k x y)
 
     pub first-none : down_to (condemned_at np i g) (reach g.plan (at (hiding g i).down (i + 1))) ≡ []
     first-none = next-same (i + 1) at_top ∙ apart-same 0 (i + 1 + 1) (omega arith) (λ k x y. header-gap g R.tidy (i + 1) hd k y)

@@ -35,7 +35,8 @@ pub down-front : (f : ℕ → Bool) (k : ℕ) → (down_to f k ≡ []) ⊎ ((x :
 down-front f zero = inl refl
 down-front f (suc k) = go (f k) refl (down-front f k)
   where
-    go : (b : Bool) → f k ≡ b → (down_to f k ≡ []) ⊎ ((x : ℕ) × (x < k) × (f x ≡ true) × (down_to f k ≡ x ∷ down_to f x)) → (cond b (k ∷ down_to f k) (down_to f k) ≡ []) ⊎ ((x : ℕ) × (x < suc k) × (f x ≡ true) × (cond b (k ∷ down_to f k) (down_to f k) ≡ x ∷ down_to f x))
+    go : (b : Bool) → f k ≡ b → (down_to f k ≡ []) ⊎ ((x : ℕ) × (x < k) × (f x ≡ true) × (down_to f k ≡ x ∷ down_to f x))
+        → (cond b (k ∷ down_to f k) (down_to f k) ≡ []) ⊎ ((x : ℕ) × (x < suc k) × (f x ≡ true) × (cond b (k ∷ down_to f k) (down_to f k) ≡ x ∷ down_to f x))
     go true e r = inr (k, omega arith, e, refl)
     go false e (inl r) = inl r
     go false e (inr r) = inr (r.0, omega (arith, r.1), r.2, r.3)
@@ -65,7 +66,8 @@ module _ (g : Ground) (R : Ready g) (i np : ℕ) (C : Condemns np i g (down_to (
       T_true (first_live g x) (T_and (not (full_before g x)) (eqb (g.plan.tint x) 0) b).0
 
   column-is : (x : ℕ) → condemned_at np i g x ≡ true → in_column g (i + 1) x ≡ true
-  column-is x e = T_true (in_column g (i + 1) x) (T_and (in_column g (i + 1) x) (not (full_before g x) && eqb (g.plan.tint x) 0 && node_blocked (taken g (hides g (i + 1))) x np) (subst T (sym e) tt)).0
+  column-is x e = T_true (in_column g (i + 1) x)
+      (T_and (in_column g (i + 1) x) (not (full_before g x) && eqb (g.plan.tint x) 0 && node_blocked (taken g (hides g (i + 1))) x np) (subst T (sym e) tt)).0
 
   entry-is : (x : ℕ) → condemned_at np i g x ≡ true → EntryOf g.plan x
   entry-is x e = (column-entry g R.tidy (i + 1) x (column-is x e)).0
@@ -99,7 +101,8 @@ module _ (g : Ground) (R : Ready g) (i np : ℕ) (C : Condemns np i g (down_to (
       rest : (r < d.bound) × (condemned_at np i g r ≡ true) × (down_to (condemned_at np i g) d.bound ≡ r ∷ down_to (condemned_at np i g) r)
       rest = ⊎_elim (λ e. absurd (n (subst (Chain g.plan tints r) e d.chain))) some (down-front (condemned_at np i g) d.bound)
         where
-          some : (x : ℕ) × (x < d.bound) × (condemned_at np i g x ≡ true) × (down_to (condemned_at np i g) d.bound ≡ x ∷ down_to (condemned_at np i g) x) → (r < d.bound) × (condemned_at np i g r ≡ true) × (down_to (condemned_at np i g) d.bound ≡ r ∷ down_to (condemned_at np i g) r)
+          some : (x : ℕ) × (x < d.bound) × (condemned_at np i g x ≡ true) × (down_to (condemned_at np i g) d.bound ≡ x ∷ down_to (condemned_at np i g) x)
+              → (r < d.bound) × (condemned_at np i g r ≡ true) × (down_to (condemned_at np i g) d.bound ≡ r ∷ down_to (condemned_at np i g) r)
           some w =
               let c = subst (Chain g.plan tints r) w.3 d.chain in
               subst (λ (x : ℕ). (x < d.bound) × (condemned_at np i g x ≡ true) × (down_to (condemned_at np i g) d.bound ≡ x ∷ down_to (condemned_at np i g) x)) (sym c.0) (w.1, w.2, w.3)
@@ -124,7 +127,8 @@ module _ (g : Ground) (R : Ready g) (i np : ℕ) (C : Condemns np i g (down_to (
       fresh = subst (Fresh g) whole all-fresh
 
       fresh-done : Fresh g (deletes g d.done)
-      fresh-done = fresh-front g (deletes g d.done) (others g r ++ (r ∷ [])) (fresh-front g (deletes g d.done ++ (others g r ++ (r ∷ []))) (deletes g (down_to (condemned_at np i g) r)) fresh)
+      fresh-done = fresh-front g (deletes g d.done) (others g r ++ (r ∷ []))
+          (fresh-front g (deletes g d.done ++ (others g r ++ (r ∷ []))) (deletes g (down_to (condemned_at np i g) r)) fresh)
 
       fresh-next : Fresh (taken g (deletes g d.done)) (others g r ++ (r ∷ []))
       fresh-next = fresh-rest g (deletes g d.done) (others g r ++ (r ∷ [])) (fresh-front g (deletes g d.done ++ (others g r ++ (r ∷ []))) (deletes g (down_to (condemned_at np i g) r)) fresh)
@@ -218,7 +222,8 @@ module _ (g : Ground) (R : Ready g) (i np : ℕ) (C : Condemns np i g (down_to (
 
       -- the next is lower
       pub next-lower : at tints (lo g.plan r - 1) < r
-      next-lower = ⊎_elim (λ e. let c = subst (Chain g.plan tints (at tints (lo g.plan r - 1))) e next-chain in omega (arith, c, entry-from g.plan W r at_entry)) (λ w. let c = subst (Chain g.plan tints (at tints (lo g.plan r - 1))) w.3 next-chain in omega (arith, c.0, w.1)) (down-front (condemned_at np i g) r)
+      next-lower = ⊎_elim (λ e. let c = subst (Chain g.plan tints (at tints (lo g.plan r - 1))) e next-chain in omega (arith, c, entry-from g.plan W r at_entry))
+          (λ w. let c = subst (Chain g.plan tints (at tints (lo g.plan r - 1))) w.3 next-chain in omega (arith, c.0, w.1)) (down-front (condemned_at np i g) r)
 
 -- Where no column was emptied, the lists are those without all that were found.
 pub spared-all : {g : Ground} {i np z : ℕ} {heads : List ℤ} {up down : List ℕ} → Spared g i np heads up down z → z ≡ 0
@@ -255,7 +260,8 @@ module _ {g : Ground} {i np z : ℕ} {heads₀ : List ℤ} {up₀ down₀ tints 
     pub spare-within : Within (after g (deletes g d.0.done)) r
     spare-within = at-within g s.ready i np s.condemns d.0 d.1
 
-    pub spare-stop : {heads' : List ℤ} {up' down' : List ℕ} {y : ℕ} → Deleted (after g (deletes g d.0.done)) np (others (after g (deletes g d.0.done)) r ++ (r ∷ [])) heads' up' down' y → y ≢ 0
+    pub spare-stop : {heads' : List ℤ} {up' down' : List ℕ} {y : ℕ}
+        → Deleted (after g (deletes g d.0.done)) np (others (after g (deletes g d.0.done)) r ++ (r ∷ [])) heads' up' down' y → y ≢ 0
         → Spared g i np heads' up' down' y
     spare-stop a m = deletes-stop g s.ready i np s.condemns d.0 d.1 a m
 

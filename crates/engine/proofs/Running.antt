@@ -37,7 +37,8 @@ found_none : (o : Option ℕ) (t : Finding) → None ≡ item_told o → unless_
 found_none none t e = refl
 found_none (some q) t e = search rules
 
-module _ {f : Figures} {np ns n : ℕ} {items colours ends : List ℕ} {heads₀ : List ℤ} {up₀ down₀ tints₀ marks₀ : List ℕ} (b : Buildable f np ns n items colours ends heads₀ up₀ down₀ tints₀ marks₀) where
+module _ {f : Figures} {np ns n : ℕ} {items colours ends : List ℕ} {heads₀ : List ℤ} {up₀ down₀ tints₀ marks₀ : List ℕ}
+    (b : Buildable f np ns n items colours ends heads₀ up₀ down₀ tints₀ marks₀) where
   abbrev a : Problem
   a = problem_of np ns items colours ends
 

@@ -130,13 +130,15 @@ module _ {g : Ground} {tints : List ℕ} {c from : ℕ} (w : Column g tints c fr
               e₁,
               record {
                 holds = subst (λ (h : Ground). Holds h heads₁ up₁ down₁) (ap (taken (taken g (out rr))) same-others ∙ sym (taken-append g (out rr) (others g rr))) k.holds;
-                last = k.last ∙ ap (λ (xs : List ℕ). last_out (taken g (out rr)) np xs z) same-others ∙ ap (last_out (taken g (out rr)) np (others g rr)) h.last ∙ sym (last_out-append g np (out rr) (others g rr) 0);
+                last = k.last ∙ ap (λ (xs : List ℕ). last_out (taken g (out rr)) np xs z) same-others ∙ ap (last_out (taken g (out rr)) np (others g rr)) h.last
+                    ∙ sym (last_out-append g np (out rr) (others g rr) 0);
               },
             )
 
       -- the node is dealt with, whatever the test is called: its option hidden if the colour is 0, else left alone
       pub dealt : {n : ℕ} → n ≡ np → {heads₁ : List ℤ} {up₁ down₁ : List ℕ} {stack₁ : Option ℕ}
-          → (at tints rr ≡ 0 → (h : Ground) (z : ℕ) → stack ≡ column z → Around h rr → Holds h heads up down → (z₁ : ℕ) × (stack₁ ≡ column z₁) × Taken h (others h rr) n z heads₁ up₁ down₁ z₁)
+          → (at tints rr ≡ 0 → (h : Ground) (z : ℕ) → stack ≡ column z → Around h rr → Holds h heads up down → (z₁ : ℕ) × (stack₁ ≡ column z₁)
+          × Taken h (others h rr) n z heads₁ up₁ down₁ z₁)
           → (at tints rr ≢ 0 → Gone g (out (rr + 1)) np heads up down stack → Gone g (out (rr + 1)) np heads₁ up₁ down₁ stack₁)
           → Gone g (out (rr + 1)) np heads₁ up₁ down₁ stack₁
       dealt e hides spares =

@@ -28,7 +28,8 @@ rows-ordered : (P : Plan) → Planned P → (j k x y : ℕ) → EntryOf P j → 
     → EntryOf P x → P.number x ≡ P.number j → EntryOf P y → P.number y ≡ P.number k → x < y
 rows-ordered P W j k x y ej ek n l ex nx ey ny =
     ⊎_elim (λ (q : P.number j < P.number k). omega (arith, W.apart (P.number j) (P.number k) q ek.option (entry_row P W j ej) (entry_row P W k ek), x-till, y-from))
-    (λ (q : P.number k ≤ P.number j). omega (arith, W.apart (P.number k) (P.number j) (omega arith) ej.option (entry_row P W k ek) (entry_row P W j ej), ek.till, ej.from)) (less? (P.number j) (P.number k))
+    (λ (q : P.number k ≤ P.number j). omega
+    (arith, W.apart (P.number k) (P.number j) (omega arith) ej.option (entry_row P W k ek) (entry_row P W j ej), ek.till, ej.from)) (less? (P.number j) (P.number k))
   where
     x-till : x < hi P j
     x-till = subst (λ (i : ℕ). x < P.past i) nx ex.till
@@ -84,7 +85,8 @@ gather_later chosen g k = gather_from chosen g k (g.plan.N - k)
 module _ (chosen : ℕ → Bool) (g : Ground) where
   gather-more : (n k : ℕ) → gather_to chosen g (k + n) ≡ gather_to chosen g k ++ gather_from chosen g k n
   gather-more zero k = let e : k + 0 ≡ k = omega arith in rw e (sym (append-nil (gather_to chosen g k)))
-  gather-more (suc n) k = let e : k + suc n ≡ suc k + n = omega arith in rw e (gather-more n (suc k) ∙ append_assoc (gather_to chosen g k) (cond (chosen k) (others g k) []) (gather_from chosen g (suc k) n))
+  gather-more (suc n) k = let e : k + suc n ≡ suc k + n = omega arith in
+      rw e (gather-more n (suc k) ∙ append_assoc (gather_to chosen g k) (cond (chosen k) (others g k) []) (gather_from chosen g (suc k) n))
 
   pub gather-split : (k : ℕ) → k ≤ g.plan.N → gather_to chosen g g.plan.N ≡ gather_to chosen g k ++ gather_later chosen g k
   gather-split k h = let e : g.plan.N ≡ k + (g.plan.N - k) = omega arith in ap (gather_to chosen g) e ∙ gather-more (g.plan.N - k) k

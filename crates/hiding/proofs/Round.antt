@@ -43,10 +43,17 @@ pub record Round (g : Ground) (rr np : ℕ) (last : Option ℕ) (heads : List �
 
 module _ {g : Ground} {rr np : ℕ} {last : Option ℕ} (a : Around g rr) where
   -- another place with the same nodes passed
-  moved : {heads : List ℤ} {up down : List ℕ} {stack : Option ℕ} (xs : List ℕ) (nn : ℕ) → At g rr nn → walked g rr nn ≡ xs → Fresh g xs → Holds (taken g xs) heads up down → Chosen g xs np last stack
+  moved : {heads : List ℤ} {up down : List ℕ} {stack : Option ℕ} (xs : List ℕ) (nn : ℕ) → At g rr nn → walked g rr nn ≡ xs → Fresh g xs
+      → Holds (taken g xs) heads up down → Chosen g xs np last stack
       → Round g rr np last heads up down nn stack
   moved {heads} {up} {down} {stack} xs nn p e f k s =
-      record { place = p; fresh = subst (λ (l : List ℕ). Fresh g l) (sym e) f; holds = subst (λ (l : List ℕ). Holds (taken g l) heads up down) (sym e) k; chosen = subst (λ (l : List ℕ). Chosen g l np last stack) (sym e) s }
+      record {
+        place = p;
+        fresh = subst (λ (l : List ℕ). Fresh g l) (sym e) f;
+        holds = subst (λ (l : List ℕ). Holds (taken g l) heads up down) (sym e) k;
+        chosen =
+            subst (λ (l : List ℕ). Chosen g l np last stack) (sym e) s;
+      }
 
   pub begin : {heads : List ℤ} {up down : List ℕ} → Holds g heads up down → Round g rr np last heads up down (rr + 1) last
   begin k = moved [] (rr + 1) (walk_begins g a.tidy rr a.entry) (walked_none g a.tidy rr a.entry) tt k (λ z e. e)

@@ -30,7 +30,8 @@ pub record RoundBack (g : Ground) (rr : ℕ) (rest : List ℕ) (heads : List ℤ
 
 module _ {g : Ground} {rr : ℕ} {rest : List ℕ} (a : Returning g rr rest) where
   -- another place with the same nodes away
-  moved : {heads : List ℤ} {up down : List ℕ} (xs : List ℕ) (nn : ℕ) → At g rr nn → ahead g rr nn ≡ xs → Rising g (xs ++ rest) → Away g (xs ++ rest) heads up down → RoundBack g rr rest heads up down nn
+  moved : {heads : List ℤ} {up down : List ℕ} (xs : List ℕ) (nn : ℕ) → At g rr nn → ahead g rr nn ≡ xs → Rising g (xs ++ rest) → Away g (xs ++ rest) heads up down
+      → RoundBack g rr rest heads up down nn
   moved {heads} {up} {down} xs nn p e r k =
       record { place = p; rising = subst (λ (l : List ℕ). Rising g (l ++ rest)) (sym e) r; away = subst (λ (l : List ℕ). Away g (l ++ rest) heads up down) (sym e) k }
 

@@ -27,4 +27,5 @@ module _ (g : Ground) (t : Tidy g) (x : ℕ) (w : Within g x) (xs : List ℕ) (f
   pub more-back : set (taken (cut_one g x) xs).heads (g.plan.col x) (pos (item_of (head (taken (cut_one g x) xs).heads (g.plan.col x)) + 1)) ≡ (taken g xs).heads
   more-back =
       rw (heads_first-last g x xs)
-      (subst (λ (P : Plan). set (cut_one (taken g xs) x).heads (P.col x) (pos (item_of (head (cut_one (taken g xs) x).heads (P.col x)) + 1)) ≡ (taken g xs).heads) (taken-plan g xs) (back-heads (taken g xs) h-tidy x h-within))
+      (subst (λ (P : Plan). set (cut_one (taken g xs) x).heads (P.col x) (pos (item_of (head (cut_one (taken g xs) x).heads (P.col x)) + 1)) ≡ (taken g xs).heads)
+      (taken-plan g xs) (back-heads (taken g xs) h-tidy x h-within))

@@ -35,7 +35,8 @@ others-distinct g p =
     subst (λ (t : Bool). T (distinct (cond t (keep (full g.heads) (span (p + 1) p)) (keep (full g.heads) (span (p + 1) (hi g.plan p)) ++ keep (full g.heads) (span (lo g.plan p) p)))))
     (sym (le-ltb p p (omega arith)))
     (distinct_append (keep (full g.heads) (span (p + 1) (hi g.plan p))) (keep (full g.heads) (span (lo g.plan p) p)) (part (p + 1) (hi g.plan p)) (part (lo g.plan p) p)
-    (λ x m n. let a = In-span (p + 1) (hi g.plan p) (keep→ (full g.heads) (span (p + 1) (hi g.plan p)) m).0 in let b = In-span (lo g.plan p) p (keep→ (full g.heads) (span (lo g.plan p) p) n).0 in omega (arith, a.0, b.1)))
+    (λ x m n. let a = In-span (p + 1) (hi g.plan p) (keep→ (full g.heads) (span (p + 1) (hi g.plan p)) m).0 in
+    let b = In-span (lo g.plan p) p (keep→ (full g.heads) (span (lo g.plan p) p) n).0 in omega (arith, a.0, b.1)))
   where
     part : (a b : ℕ) → T (distinct (keep (full g.heads) (span a b)))
     part a b = rising-distinct (keep (full g.heads) (span a b)) (ordered-keep ◌<◌ (full g.heads) (span a b) (from-rises a (b - a)))
@@ -66,7 +67,8 @@ module _ (chosen : ℕ → Bool) (g : Ground) where
       own true e n = (k, omega arith, e, n)
       own false e n = absurd (not-nil n)
 
-      go : In y (gather_to chosen g k) ⊎ In y (cond (chosen k) (others g k) []) → (In y (gather_to chosen g k) → (j : ℕ) × (j < k) × (chosen j ≡ true) × In y (others g j)) → (j : ℕ) × (j < suc k) × (chosen j ≡ true) × In y (others g j)
+      go : In y (gather_to chosen g k) ⊎ In y (cond (chosen k) (others g k) [])
+          → (In y (gather_to chosen g k) → (j : ℕ) × (j < k) × (chosen j ≡ true) × In y (others g j)) → (j : ℕ) × (j < suc k) × (chosen j ≡ true) × In y (others g j)
       go (inl n) r = let w = r n in (w.0, omega (arith, w.1), w.2, w.3)
       go (inr n) r = own (chosen k) refl n
 

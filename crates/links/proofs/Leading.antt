@@ -93,7 +93,8 @@ module _ (g : Ground) (t : Tidy g) (r : ℕ) (e : EntryOf g.plan r) where
           whole : head g.heads q ≡ pos (g.plan.col q) → Leads g r q
           whole f =
               let i : 0 < item_of (head g.heads q) = rw f (W.entry q (inner q b n)).above in
-              let m : any (full g.heads) (span (lo g.plan r) r) ≡ true = T_true _ (any← (full g.heads) (span (lo g.plan r) r) (span-In (lo g.plan r) r (omega (arith, b.low, n)) b.high) (lib.Dec.lt→ltb 0 (item_of (head g.heads q)) i)) in
+              let m : any (full g.heads) (span (lo g.plan r) r) ≡ true =
+              T_true _ (any← (full g.heads) (span (lo g.plan r) r) (span-In (lo g.plan r) r (omega (arith, b.low, n)) b.high) (lib.Dec.lt→ltb 0 (item_of (head g.heads q)) i)) in
               record {
                 inside = (back_some q b).1;
                 first = ne_eqb (item_of (head g.heads q)) 0 (λ z. omega (arith, i, z)) ∙ sym (ap not m);

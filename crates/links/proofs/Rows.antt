@@ -98,7 +98,8 @@ module _ (g : Ground) (t : Tidy g) (p : ℕ) (e : EntryOf g.plan p) where
             ⊎_elim (λ f. absurd (omega (arith, sym z ∙ ap item_of f, (W.entry nn m).above))) (λ s. s.ahead) (t.rows nn m)
 
     pub over-at : At g p (at g.up nn)
-    over-at = ⊎_elim (λ w. rw w.1 (record { from = omega arith; till = omega (arith, e.from, e.till) })) (λ w. rw w.1 (record { from = omega (arith, a.from); till = omega (arith, w.0) })) leads
+    over-at = ⊎_elim (λ w. rw w.1 (record { from = omega arith; till = omega (arith, e.from, e.till) }))
+        (λ w. rw w.1 (record { from = omega (arith, a.from); till = omega (arith, w.0) })) leads
 
     pub over-walked : walked g p (at g.up nn) ≡ walked g p nn
     over-walked =
@@ -127,7 +128,8 @@ module _ (g : Ground) (t : Tidy g) (p : ℕ) (e : EntryOf g.plan p) where
 
     -- with an item, it is an entry of the row
     pub back_inside : item_of (head g.heads q) ≢ 0 → At g p q
-    back_inside n = ⊎_elim (λ s. absurd (n (ap (λ (y : ℕ). item_of (head g.heads y)) s ∙ row-edge.none))) (λ d. record { from = omega (arith, a.from, d); till = omega (arith, a.till) }) (same? q (lo g.plan p - 1))
+    back_inside n = ⊎_elim (λ s. absurd (n (ap (λ (y : ℕ). item_of (head g.heads y)) s ∙ row-edge.none)))
+        (λ d. record { from = omega (arith, a.from, d); till = omega (arith, a.till) }) (same? q (lo g.plan p - 1))
 
     pub back-full-way : (m : ℕ) → g.plan.N ≤ m → q ≢ p → way_back m p (q - 1) < way_back m p q
     back-full-way m h d = back-next m p q d back_some (omega (arith, back_in)) (omega (arith, e.till, row-till g.plan W p e))
@@ -149,7 +151,8 @@ module _ (g : Ground) (t : Tidy g) (p : ℕ) (e : EntryOf g.plan p) where
               ⊎_elim (λ f. absurd (omega (arith, sym z ∙ ap item_of f, (W.entry q m).above))) (λ s. s.back) (t.rows q m)
 
       pub back-over-at : At g p (at g.down q + 1)
-      back-over-at = ⊎_elim (λ w. rw w.1 (record { from = omega (arith, e.from, e.till); till = omega (arith, e.till) })) (λ w. rw w.1 (record { from = omega (arith, w.0, back_some); till = omega (arith, a.till) })) falls
+      back-over-at = ⊎_elim (λ w. rw w.1 (record { from = omega (arith, e.from, e.till); till = omega (arith, e.till) }))
+          (λ w. rw w.1 (record { from = omega (arith, w.0, back_some); till = omega (arith, a.till) })) falls
 
       pub back-over-walked : walked g p (at g.down q + 1) ≡ walked g p (q + 1)
       back-over-walked =

@@ -105,7 +105,8 @@ module _ (heads : List ℤ) (a b p : ℕ) where
 
   -- from the boundary to the first node
   pub passed-edge : a ≤ p → p < b → passed heads a b p a ≡ passed heads a b p b
-  passed-edge h k = rw (le-ltb p a h, lt-ltb p b k) (ap (λ (z : List ℕ). keep (full heads) (span (p + 1) b) ++ keep (full heads) z) (span_none a a (omega arith)) ∙ append-nil (keep (full heads) (span (p + 1) b)))
+  passed-edge h k = rw (le-ltb p a h, lt-ltb p b k)
+      (ap (λ (z : List ℕ). keep (full heads) (span (p + 1) b) ++ keep (full heads) z) (span_none a a (omega arith)) ∙ append-nil (keep (full heads) (span (p + 1) b)))
 
   -- what was passed is full, in the row, not p, and not the place
   pub In-passed : a ≤ p → p < b → (nn : ℕ) → a ≤ nn → nn ≤ b → {y : ℕ} → In y (passed heads a b p nn) → (a ≤ y) × (y < b) × (y ≢ p) × (y ≢ nn) × T (full heads y)
@@ -113,20 +114,24 @@ module _ (heads : List ℤ) (a b p : ℕ) where
     where
       ahead : p < nn → (a ≤ y) × (y < b) × (y ≢ p) × (y ≢ nn) × T (full heads y)
       ahead l =
-          let w = keep→ (full heads) (span (p + 1) nn) (subst (λ (t : Bool). In y (cond t (keep (full heads) (span (p + 1) nn)) (keep (full heads) (span (p + 1) b) ++ keep (full heads) (span a nn)))) (lt-ltb p nn l) m) in
+          let w = keep→ (full heads) (span (p + 1) nn)
+          (subst (λ (t : Bool). In y (cond t (keep (full heads) (span (p + 1) nn)) (keep (full heads) (span (p + 1) b) ++ keep (full heads) (span a nn)))) (lt-ltb p nn l) m) in
           let s = In-span (p + 1) nn w.0 in
           (omega arith, omega arith, (λ e. omega (arith, s.0, e)), (λ e. omega (arith, s.1, e)), w.1)
 
       first : nn ≤ p → In y (keep (full heads) (span (p + 1) b)) ⊎ In y (keep (full heads) (span a nn)) → (a ≤ y) × (y < b) × (y ≢ p) × (y ≢ nn) × T (full heads y)
-      first l (inl n) = let w = keep→ (full heads) (span (p + 1) b) n in let s = In-span (p + 1) b w.0 in (omega arith, s.1, (λ e. omega (arith, s.0, e)), (λ e. omega (arith, s.0, l, e)), w.1)
+      first l (inl n) = let w = keep→ (full heads) (span (p + 1) b) n in let s = In-span (p + 1) b w.0 in
+          (omega arith, s.1, (λ e. omega (arith, s.0, e)), (λ e. omega (arith, s.0, l, e)), w.1)
       first l (inr n) = let w = keep→ (full heads) (span a nn) n in let s = In-span a nn w.0 in (s.0, omega arith, (λ e. omega (arith, s.1, l, e)), (λ e. omega (arith, s.1, e)), w.1)
 
       behind : nn ≤ p → (a ≤ y) × (y < b) × (y ≢ p) × (y ≢ nn) × T (full heads y)
-      behind l = first l (In-append (keep (full heads) (span (p + 1) b)) (subst (λ (t : Bool). In y (cond t (keep (full heads) (span (p + 1) nn)) (keep (full heads) (span (p + 1) b) ++ keep (full heads) (span a nn)))) (le-ltb p nn l) m))
+      behind l = first l (In-append (keep (full heads) (span (p + 1) b))
+          (subst (λ (t : Bool). In y (cond t (keep (full heads) (span (p + 1) nn)) (keep (full heads) (span (p + 1) b) ++ keep (full heads) (span a nn)))) (le-ltb p nn l) m))
 
   -- and all others were passed when the walk is at p again
   pub passed-all : {y : ℕ} → a ≤ y → y < b → y ≢ p → T (full heads y) → In y (passed heads a b p p)
-  passed-all {y} h k n f = subst (λ (t : Bool). In y (cond t (keep (full heads) (span (p + 1) p)) (keep (full heads) (span (p + 1) b) ++ keep (full heads) (span a p)))) (sym (le-ltb p p (omega arith))) (⊎_elim after before (less? p y))
+  passed-all {y} h k n f = subst (λ (t : Bool). In y
+      (cond t (keep (full heads) (span (p + 1) p)) (keep (full heads) (span (p + 1) b) ++ keep (full heads) (span a p)))) (sym (le-ltb p p (omega arith))) (⊎_elim after before (less? p y))
     where
       after : p < y → In y (keep (full heads) (span (p + 1) b) ++ keep (full heads) (span a p))
       after l = In-append-l (keep (full heads) (span a p)) (keep← (full heads) (span (p + 1) b) (span-In (p + 1) b (omega arith) k) f)

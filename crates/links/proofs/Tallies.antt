@@ -52,7 +52,8 @@ module _ (P : Plan) (on : ℕ → Bool) where
   -- of any other column
   pub tally-keep : (x i : ℕ) → P.col x ≢ i → tally P (without on x) i ≡ tally P on i
   unfolding tally
-  tally-keep x i n = count-cong (λ y. without on x y && eqb (P.col y) i) (λ y. on y && eqb (P.col y) i) (from (start P) (P.N - start P)) (λ y m. ⊎_elim (λ e. here-none y e) (λ d. rw (ne_eqb y x d)) (same? y x))
+  tally-keep x i n = count-cong (λ y. without on x y && eqb (P.col y) i) (λ y. on y && eqb (P.col y) i) (from (start P) (P.N - start P))
+      (λ y m. ⊎_elim (λ e. here-none y e) (λ d. rw (ne_eqb y x d)) (same? y x))
     where
       here-none : (y : ℕ) → y ≡ x → (without on x y && eqb (P.col y) i) ≡ (on y && eqb (P.col y) i)
       here-none y e = go (on y) (rw (e, ne_eqb (P.col x) i n))

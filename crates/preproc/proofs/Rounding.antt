@@ -37,7 +37,8 @@ pub record RoundAt (P : Plan) (total : Step) (np n i : ℕ) (removed : Bool) (he
   pub holding : Holding P state heads up down tints marks
   pub rest : total ≡ item_steps np (from i (n - i)) state removed
 
-pub round-begin : {g : Ground} (np n : ℕ) {heads : List ℤ} {up down tints marks : List ℕ} → Standing g heads up down tints marks → RoundAt g.plan (round np n (state_of g)) np n 0 false heads up down tints marks
+pub round-begin : {g : Ground} (np n : ℕ) {heads : List ℤ} {up down tints marks : List ℕ} → Standing g heads up down tints marks
+    → RoundAt g.plan (round np n (state_of g)) np n 0 false heads up down tints marks
 round-begin {g} np n s = record {
   state = state_of g;
   holding = record { ground = g; plan = refl; shows = refl; standing = s };
@@ -70,7 +71,8 @@ module _ {P : Plan} {first np n : ℕ} (f : Figured P first np) (m : n ≡ P.n) 
           rw w.holds.heads-are (omega (arith, header-before G.holding.ground.plan w.ready.tidy.planned (i + 1) round-header, w.ready.tidy.planned.room, w.ready.tidy.heads-in))
 
       pub round-small : i + 1 < node_bound
-      round-small = let w = G.holding.standing in omega (arith, header-before G.holding.ground.plan w.ready.tidy.planned (i + 1) round-header, w.ready.tidy.planned.room, w.ready.tidy.planned.small)
+      round-small = let w = G.holding.standing in
+          omega (arith, header-before G.holding.ground.plan w.ready.tidy.planned (i + 1) round-header, w.ready.tidy.planned.room, w.ready.tidy.planned.small)
 
       one_more : total ≡ item_steps np (i ∷ from (i + 1) (n - (i + 1))) G.state removed
       one_more =
@@ -100,14 +102,16 @@ module _ {P : Plan} {first np n : ℕ} (f : Figured P first np) (m : n ≡ P.n) 
         same_step : item_step np i G.state ≡ item_step np i (state_of G.holding.ground)
         same_step = ap (item_step np i) (sym G.holding.shows)
 
-        pub round-stop : {stop : Stop} {heads' : List ℤ} {up' down' tints' marks' : List ℕ} → Stepped G.holding.ground.plan (item_step np i (state_of G.holding.ground)) (Err stop) heads' up' down' tints' marks'
+        pub round-stop : {stop : Stop} {heads' : List ℤ} {up' down' tints' marks' : List ℕ}
+            → Stepped G.holding.ground.plan (item_step np i (state_of G.holding.ground)) (Err stop) heads' up' down' tints' marks'
             → Stepped P total (Err stop) heads' up' down' tints' marks'
         round-stop {stop} t = record {
           stops = one_more ∙ steps-emptied np i (from (i + 1) (n - (i + 1))) G.state removed stop.item.0 (cause_number stop.cause) live (same_step ∙ t.stops);
           goes = tt;
         }
 
-        pub round-next : {more : Bool} {heads' : List ℤ} {up' down' tints' marks' : List ℕ} → Stepped G.holding.ground.plan (item_step np i (state_of G.holding.ground)) (Ok more) heads' up' down' tints' marks'
+        pub round-next : {more : Bool} {heads' : List ℤ} {up' down' tints' marks' : List ℕ}
+            → Stepped G.holding.ground.plan (item_step np i (state_of G.holding.ground)) (Ok more) heads' up' down' tints' marks'
             → RoundAt P total np n (i + 1) (removed || more) heads' up' down' tints' marks'
         round-next {more} t =
             let w = goes-plan G.holding.plan t.goes in
@@ -123,7 +127,8 @@ pub record Turning (P : Plan) (total : Finding) (np n cap r : ℕ) (heads : List
   pub holding : Holding P state heads up down tints marks
   pub rest : total ≡ rounds np n (cap - r) r state
 
-pub rounds-begin : {g : Ground} (np n cap : ℕ) {heads : List ℤ} {up down tints marks : List ℕ} → Standing g heads up down tints marks → Turning g.plan (rounds np n cap 0 (state_of g)) np n cap 0 heads up down tints marks
+pub rounds-begin : {g : Ground} (np n cap : ℕ) {heads : List ℤ} {up down tints marks : List ℕ} → Standing g heads up down tints marks
+    → Turning g.plan (rounds np n cap 0 (state_of g)) np n cap 0 heads up down tints marks
 rounds-begin {g} np n cap s = record {
   state = state_of g;
   holding = record { ground = g; plan = refl; shows = refl; standing = s };
@@ -154,11 +159,13 @@ module _ {P : Plan} {first np n : ℕ} (f : Figured P first np) (m : n ≡ P.n) 
           ∙ rounds-after np n (cap - (r + 1)) r G.state (ap (round np n) (sym G.holding.shows) ∙ q)
           ∙ ap (λ (k : ℕ). after_round x k (λ s'. rounds np n (cap - (r + 1)) k s')) (sym (add-one r))
 
-      pub rounds-stop : {stop : Stop} {heads' : List ℤ} {up' down' tints' marks' : List ℕ} → Stepped G.holding.ground.plan (round np n (state_of G.holding.ground)) (Err stop) heads' up' down' tints' marks'
+      pub rounds-stop : {stop : Stop} {heads' : List ℤ} {up' down' tints' marks' : List ℕ}
+          → Stepped G.holding.ground.plan (round np n (state_of G.holding.ground)) (Err stop) heads' up' down' tints' marks'
           → Ended P total (Err (record { item = stop.item; cause = stop.cause; round = r + 1 })) heads' up' down' tints' marks'
       rounds-stop t = record { stops = turn_more t.stops; goes = tt }
 
-      pub rounds-settled : {heads' : List ℤ} {up' down' tints' marks' : List ℕ} → Stepped G.holding.ground.plan (round np n (state_of G.holding.ground)) (Ok false) heads' up' down' tints' marks'
+      pub rounds-settled : {heads' : List ℤ} {up' down' tints' marks' : List ℕ}
+          → Stepped G.holding.ground.plan (round np n (state_of G.holding.ground)) (Ok false) heads' up' down' tints' marks'
           → Ended P total (Ok (record { rounds = r + 1; settled = true })) heads' up' down' tints' marks'
       rounds-settled t = let w = goes-plan G.holding.plan t.goes in record { stops = tt; goes = (w.0, turn_more w.1, w.2) }
 

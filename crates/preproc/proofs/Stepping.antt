@@ -134,7 +134,8 @@ module _ {g : Ground} (i : ℕ) {c first np : ℕ} {heads : List ℤ} {up down t
             empty : down_to (condemned_at np i g) g.plan.N ≡ [] → ltb 0 (length (down_to (condemned_at np i g) g.plan.N)) ≡ b
             empty x = ap (λ (y : List ℕ). ltb 0 (length y)) x ∙ sym (nil (subst (Chain g.plan tints₂ l) x t.chain))
 
-            some : (x : ℕ) × (x < g.plan.N) × (condemned_at np i g x ≡ true) × (down_to (condemned_at np i g) g.plan.N ≡ x ∷ down_to (condemned_at np i g) x) → ltb 0 (length (down_to (condemned_at np i g) g.plan.N)) ≡ b
+            some : (x : ℕ) × (x < g.plan.N) × (condemned_at np i g x ≡ true) × (down_to (condemned_at np i g) g.plan.N ≡ x ∷ down_to (condemned_at np i g) x)
+                → ltb 0 (length (down_to (condemned_at np i g) g.plan.N)) ≡ b
             some x =
                 let l-is = (subst (Chain g.plan tints₂ l) x.3 t.chain).0 in
                 let m = (condemned→ g R np i (chosen_none g R np i quiet) x.0 x.2).0 in
@@ -154,7 +155,8 @@ module _ {g : Ground} (i : ℕ) {c first np : ℕ} {heads : List ℤ} {up down t
             stops = λ m. deleting-empties g R np i quiet (down_to (condemned_at np i g) g.plan.N) C (z - 1) (sym d.answer ∙ omega arith);
             goes = λ x. (
               shown g.plan (taken g (deletes g (down_to (condemned_at np i g) g.plan.N))).on,
-              step-deletes g R np i quiet (down_to (condemned_at np i g) g.plan.N) C (sym d.answer ∙ x) ∙ ap (went (shown g.plan (taken g (deletes g (down_to (condemned_at np i g) g.plan.N))).on)) (found_some b got nil),
+              step-deletes g R np i quiet (down_to (condemned_at np i g) g.plan.N) C (sym d.answer ∙ x)
+                  ∙ ap (went (shown g.plan (taken g (deletes g (down_to (condemned_at np i g) g.plan.N))).on)) (found_some b got nil),
               record {
                 ground = after g (deletes g (down_to (condemned_at np i g) g.plan.N));
                 plan = refl;

@@ -15,13 +15,15 @@ steps-over np c cs s removed e =
     ∙ ap (item_steps np cs s) (or-false removed)
 
 -- any other takes its step
-pub steps-went : (np c : ℕ) (cs : List ℕ) (s s' : State) (removed more : Bool) → in_live c s ≡ true → item_step np c s ≡ went s' more → item_steps np (c ∷ cs) s removed ≡ item_steps np cs s' (removed || more)
+pub steps-went : (np c : ℕ) (cs : List ℕ) (s s' : State) (removed more : Bool) → in_live c s ≡ true → item_step np c s ≡ went s' more
+    → item_steps np (c ∷ cs) s removed ≡ item_steps np cs s' (removed || more)
 unfolding item_steps
 steps-went np c cs s s' removed more e h =
     ap (λ (b : Bool). and_then (elim b [ true ↦ item_step np c s | false ↦ went s false ]) (λ s' more. item_steps np cs s' (removed || more))) e
     ∙ ap (λ (x : Step). and_then x (λ s' more. item_steps np cs s' (removed || more))) h
 
-pub steps-emptied : (np c : ℕ) (cs : List ℕ) (s : State) (removed : Bool) (q cause : ℕ) → in_live c s ≡ true → item_step np c s ≡ emptied q cause → item_steps np (c ∷ cs) s removed ≡ emptied q cause
+pub steps-emptied : (np c : ℕ) (cs : List ℕ) (s : State) (removed : Bool) (q cause : ℕ) → in_live c s ≡ true → item_step np c s ≡ emptied q cause
+    → item_steps np (c ∷ cs) s removed ≡ emptied q cause
 unfolding item_steps
 steps-emptied np c cs s removed q cause e h =
     ap (λ (b : Bool). and_then (elim b [ true ↦ item_step np c s | false ↦ went s false ]) (λ s' more. item_steps np cs s' (removed || more))) e

@@ -28,11 +28,14 @@ first_some g np (x ∷ xs) ys n = go (empties_at g np x) n (first_some (cut_one 
     go false m r = r m
 
 -- So it is for what a walk down a column gathers, when the walk is further down.
-pub first-gather : (h : Ground) (np : ℕ) (chosen : ℕ → Bool) (g : Ground) (k m : ℕ) → k ≤ m → first_out h np (gather_to chosen g k) ≢ 0 → first_out h np (gather_to chosen g m) ≡ first_out h np (gather_to chosen g k)
+pub first-gather : (h : Ground) (np : ℕ) (chosen : ℕ → Bool) (g : Ground) (k m : ℕ) → k ≤ m → first_out h np (gather_to chosen g k) ≢ 0
+    → first_out h np (gather_to chosen g m) ≡ first_out h np (gather_to chosen g k)
 first-gather h np chosen g k zero l n = let e : 0 ≡ k = omega arith in ap (λ (j : ℕ). first_out h np (gather_to chosen g j)) e
-first-gather h np chosen g k (suc m) l n = ⊎_elim (λ (e : k ≡ suc m). ap (λ (j : ℕ). first_out h np (gather_to chosen g j)) (sym e)) (λ d. more d (λ a. first-gather h np chosen g k m a n)) (same? k (suc m))
+first-gather h np chosen g k (suc m) l n =
+    ⊎_elim (λ (e : k ≡ suc m). ap (λ (j : ℕ). first_out h np (gather_to chosen g j)) (sym e)) (λ d. more d (λ a. first-gather h np chosen g k m a n)) (same? k (suc m))
   where
-    more : k ≢ suc m → (k ≤ m → first_out h np (gather_to chosen g m) ≡ first_out h np (gather_to chosen g k)) → first_out h np (gather_to chosen g (suc m)) ≡ first_out h np (gather_to chosen g k)
+    more : k ≢ suc m → (k ≤ m → first_out h np (gather_to chosen g m) ≡ first_out h np (gather_to chosen g k))
+        → first_out h np (gather_to chosen g (suc m)) ≡ first_out h np (gather_to chosen g k)
     more d r = let e = r (omega arith) in first_some h np (gather_to chosen g m) (cond (chosen m) (others g m) []) (λ z. n (sym e ∙ z)) ∙ e
 
 -- By all it is the first of the first nodes' and the rest's; so where the first nodes empty none, it is the rest's.

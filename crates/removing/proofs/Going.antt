@@ -91,12 +91,20 @@ module _ (g : Ground) (R : Ready g) (c p np : ℕ) where
           let w = in-sight g R c p y u.0 (R.whole.mates r y e u.0 (sym u.1) o u.3) (mate-col y u.0 u.1 u.2) in
           record {
             entry = u.0;
-            on = taken-on (off_column g c) (going g c p r) y (λ i. let v = goes g R c p r i in omega (arith, v.before, t.planned.once v.j r v.entry e (sym v.one-option ∙ u.1) (v.col ∙ sym q))) ∙ w.on;
-            header = taken-on (off_column g c) (going g c p r) (g.plan.col y) (λ i. entry-no-header g.plan t.planned (g.plan.col y) (goes g R c p r i).own-entry (t.planned.entry y u.0)) ∙ w.header;
+            on = taken-on (off_column g c) (going g c p r) y
+                (λ i. let v = goes g R c p r i in omega (arith, v.before, t.planned.once v.j r v.entry e (sym v.one-option ∙ u.1) (v.col ∙ sym q))) ∙ w.on;
+            header = taken-on (off_column g c) (going g c p r) (g.plan.col y)
+                (λ i. entry-no-header g.plan t.planned (g.plan.col y) (goes g R c p r i).own-entry (t.planned.entry y u.0)) ∙ w.header;
           }
 
       pub going-deletes : Deleting (midst g c p r heads up down) r heads up down
-      going-deletes = record { tidy = G.tidy; entry = e; others-in = λ y m. others-within y (subst (In y) same-others m); holds = record { heads-are = refl; up-are = refl; down-are = refl } }
+      going-deletes = record {
+        tidy = G.tidy;
+        entry = e;
+        others-in = λ y m. others-within y (subst (In y) same-others m);
+        holds =
+            record { heads-are = refl; up-are = refl; down-are = refl };
+      }
 
       held : holds_other (midst g c p r heads up down) r p ≡ holds_column g (g.plan.number r) p
       held = ap (any (λ y. eqb (g.plan.col y) p)) same-others ∙ other-holds g R r p e o (λ s. apart (sym q ∙ s))
@@ -148,11 +156,13 @@ module _ (g : Ground) (R : Ready g) (c p np : ℕ) where
               ∙ sym (first-none (off_column g c) np (going g c p r) (others g r) (tidy-off g c t) so_far G.none)
               ∙ ap (first_out (off_column g c) np) (sym one_more)
 
-          going-delete : first_out (midst g c p r heads up down) np (others g r) ≡ 0 → Holds (taken (midst g c p r heads up down) (others g r)) heads' up' down' → RemovalAt g c p np heads' up' down' (r + 1)
+          going-delete : first_out (midst g c p r heads up down) np (others g r) ≡ 0 → Holds (taken (midst g c p r heads up down) (others g r)) heads' up' down'
+              → RemovalAt g c p np heads' up' down' (r + 1)
           going-delete z H = record {
             tidy = subst Tidy ground (taken-tidy (midst g c p r heads up down) (others g r) G.tidy fresh);
             same = λ y b n. head-kept y b ∙ G.same y b n;
-            short = λ y b i j l s. head-kept y b ∙ ⊎_elim (λ w. absurd (false≢true (sym no ∙ ap (λ (k : ℕ). holds_column g (g.plan.number k) p) (sym w) ∙ s))) (λ n. G.short y b i j (omega arith) s) (same? y r);
+            short = λ y b i j l s. head-kept y b
+                ∙ ⊎_elim (λ w. absurd (false≢true (sym no ∙ ap (λ (k : ℕ). holds_column g (g.plan.number k) p) (sym w) ∙ s))) (λ n. G.short y b i j (omega arith) s) (same? y r);
             ahead = λ y i j l. ap (λ (d : List ℕ). at d y) H.down-are ∙ taken-down-off (midst g c p r heads up down) (others g r) G.tidy fresh y (own-off y j) ∙ G.ahead y i j (omega arith);
             none = sym going-first ∙ z;
           }
@@ -182,7 +192,8 @@ module _ (g : Ground) (R : Ready g) (c p np : ℕ) where
           pub passed_first : z ≡ first_out (off_column g c) np (going g c p (r + 1))
           passed_first = go (holds_column g (g.plan.number r) p) refl went
             where
-              go : (b : Bool) → holds_column g (g.plan.number r) p ≡ b → z ≡ first_out (midst g c p r heads up down) np (cond b [] (others g r)) → z ≡ first_out (off_column g c) np (going g c p (r + 1))
+              go : (b : Bool) → holds_column g (g.plan.number r) p ≡ b → z ≡ first_out (midst g c p r heads up down) np (cond b [] (others g r))
+                  → z ≡ first_out (off_column g c) np (going g c p (r + 1))
               go true y w = w ∙ sym G.none ∙ ap (first_out (off_column g c) np) (sym (as_before y))
               go false n w = w ∙ going-first n
 
@@ -190,6 +201,7 @@ module _ (g : Ground) (R : Ready g) (c p np : ℕ) where
           passed-going e = go (holds_column g (g.plan.number r) p) refl went left
             where
               go : (b : Bool) → holds_column g (g.plan.number r) p ≡ b → z ≡ first_out (midst g c p r heads up down) np (cond b [] (others g r))
-                  → Holds (cond b (shortened (midst g c p r heads up down) r) (taken (midst g c p r heads up down) (others g r))) heads' up' down' → RemovalAt g c p np heads' up' down' (r + 1)
+                  → Holds (cond b (shortened (midst g c p r heads up down) r) (taken (midst g c p r heads up down) (others g r))) heads' up' down'
+                  → RemovalAt g c p np heads' up' down' (r + 1)
               go true y w H = going-short y H
               go false n w H = going-delete n (sym w ∙ e) H

@@ -122,7 +122,8 @@ module _ {g : Ground} {c p first : ℕ} {heads₀ : List ℤ} {up₀ down₀ : L
           kept : (z : ℕ) → EntryOf g.plan z → head heads' z ≡ head heads z
           kept z e = rw a (get_or-set_other heads c z (pos 0) (pos 0) (λ q. entry-no-header g.plan t.planned z e (subst (Header g.plan) (sym q) Q.item)))
 
-          mates : (y z : ℕ) → EntryOf g.plan y → EntryOf g.plan z → g.plan.number y ≡ g.plan.number z → mask_without g c p y ≡ true → head heads' z ≡ pos (g.plan.col z) → mask_without g c p z ≡ true
+          mates : (y z : ℕ) → EntryOf g.plan y → EntryOf g.plan z → g.plan.number y ≡ g.plan.number z → mask_without g c p y ≡ true
+              → head heads' z ≡ pos (g.plan.col z) → mask_without g c p z ≡ true
           mates y z ey ez s o h = ⊎_elim (λ q. absurd (own q (g.on z) refl)) (λ n. other n) (same? (g.plan.col z) c)
             where
               was-on : g.on y ≡ true
@@ -140,7 +141,8 @@ module _ {g : Ground} {c p first : ℕ} {heads₀ : List ℤ} {up₀ down₀ : L
               -- of column c, it was shortened
               own : g.plan.col z ≡ c → (v : Bool) → g.on z ≡ v → ⊥
               own q true i =
-                  let hp = T-imp (holds_column g (g.plan.number z) c) (holds_column g (g.plan.number z) p) (subst (λ (k : ℕ). T (not (holds_column g k c) || holds_column g k p)) s keeps-y) (holds← g t z c ez i q) in
+                  let hp = T-imp (holds_column g (g.plan.number z) c) (holds_column g (g.plan.number z) p)
+                  (subst (λ (k : ℕ). T (not (holds_column g k c) || holds_column g k p)) s keeps-y) (holds← g t z c ez i q) in
                   let e = done.short z ez i q (entry-till g.plan t.planned z ez) (T_true (holds_column g (g.plan.number z) p) hp) in
                   omega (arith, ap item_of (sym (kept z ez ∙ e) ∙ h), (t.planned.entry z ez).above)
               own q false i = false≢true (sym i ∙ full-before (λ j. absurd (false≢true (sym i ∙ j))))

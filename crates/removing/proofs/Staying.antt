@@ -52,7 +52,8 @@ module _ (g : Ground) (R : Ready g) (c p : ℕ) where
 
   -- when all that go are gone, what is in sight is what stays, but for the header of column c
   pub stays_same : (y : ℕ) → y ≢ c → mask_without g c p y ≡ (taken (off_column g c) (gather_to (leaving g c p) g g.plan.N)).on y
-  stays_same y n = T-same (mask_without g c p y) ((taken (off_column g c) (gather_to (leaving g c p) g g.plan.N)).on y) (λ h. true-T (to (T_true (mask_without g c p y) h))) (λ h. true-T (from (T_true _ h)))
+  stays_same y n = T-same (mask_without g c p y) ((taken (off_column g c) (gather_to (leaving g c p) g g.plan.N)).on y)
+      (λ h. true-T (to (T_true (mask_without g c p y) h))) (λ h. true-T (from (T_true _ h)))
     where
       to : mask_without g c p y ≡ true → (taken (off_column g c) (gather_to (leaving g c p) g g.plan.N)).on y ≡ true
       to h =
@@ -63,7 +64,8 @@ module _ (g : Ground) (R : Ready g) (c p : ℕ) where
           gone : Goes g R c p g.plan.N y → (y < start g.plan) ⊎ ((g.plan.col y ≢ c) × T (keeps g c p y)) → ⊥
           gone v (inl l) = omega (arith, entry-from g.plan t.planned y v.own-entry, l)
           gone v (inr d) =
-              let h = T-imp (holds_column g (g.plan.number y) c) (holds_column g (g.plan.number y) p) d.1 (subst (λ (k : ℕ). T (holds_column g k c)) (sym v.one-option) (holds← g t v.j c v.entry v.on v.col)) in
+              let h = T-imp (holds_column g (g.plan.number y) c) (holds_column g (g.plan.number y) p) d.1
+              (subst (λ (k : ℕ). T (holds_column g k c)) (sym v.one-option) (holds← g t v.j c v.entry v.on v.col)) in
               T_not (holds_column g (g.plan.number v.j) p) v.lacks (subst (λ (k : ℕ). T (holds_column g k p)) v.one-option h)
 
       from : (taken (off_column g c) (gather_to (leaving g c p) g g.plan.N)).on y ≡ true → mask_without g c p y ≡ true
@@ -73,7 +75,8 @@ module _ (g : Ground) (R : Ready g) (c p : ℕ) where
           →stays g c p y v.0 (⊎_elim (λ l. inl l) (λ l. inr (v.1, kept (on-entry g t y v.0 l) v.0 v.1 w.1)) (less? y (start g.plan)))
         where
           kept : EntryOf g.plan y → g.on y ≡ true → g.plan.col y ≢ c → (In y (gather_to (leaving g c p) g g.plan.N) → ⊥) → T (keeps g c p y)
-          kept e o d out = imp-T (holds_column g (g.plan.number y) c) (holds_column g (g.plan.number y) p) (λ h. ⊎_elim (λ k. k) (λ k. absurd (out (left h k))) (T-dec (holds_column g (g.plan.number y) p)))
+          kept e o d out = imp-T (holds_column g (g.plan.number y) c) (holds_column g (g.plan.number y) p)
+              (λ h. ⊎_elim (λ k. k) (λ k. absurd (out (left h k))) (T-dec (holds_column g (g.plan.number y) p)))
             where
               left : T (holds_column g (g.plan.number y) c) → T (not (holds_column g (g.plan.number y) p)) → In y (gather_to (leaving g c p) g g.plan.N)
               left h k =

@@ -107,7 +107,8 @@ module _ {g : Ground} {nodes : Nodes} {tints : List ℕ} (a : NodesRead g nodes 
           total = omega arith
 
       -- after the last column the result is written
-      pub all_done : c ≡ nodes.n → Returned (results_of nodes.n (shown g.plan g.on)) old lists × (o ≡ length (kept_options nodes.n (shown g.plan g.on))) × (e ≡ length (results_of nodes.n (shown g.plan g.on)).items)
+      pub all_done : c ≡ nodes.n → Returned (results_of nodes.n (shown g.plan g.on)) old lists × (o ≡ length (kept_options nodes.n (shown g.plan g.on)))
+          × (e ≡ length (results_of nodes.n (shown g.plan g.on)).items)
       unfolding results_of
       all_done q =
           let same : options_to g c ≡ kept_options nodes.n (shown g.plan g.on) = ap (options_to g) q ∙ options-kept g ready nodes.n in

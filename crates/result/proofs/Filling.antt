@@ -33,7 +33,8 @@ pub filled_then : (old : List ℕ) {xs ys list rest : List ℕ} {p q : ℕ} → 
     → take p list ++ (rest ++ drop (length list - p) (drop p list)) ≡ written (xs ++ ys) old
 filled_then old {xs} {ys} {list} {rest} {p} {q} f g =
     ap (λ (l : List ℕ). take p list ++ (rest ++ l)) none
-    ∙ ap (λ (l : List ℕ). take p list ++ l) (append-nil rest ∙ g.list-is ∙ ap (λ (l : List ℕ). ys ++ drop (length ys) l) (take_rest list p ∙ behind) ∙ ap (λ (l : List ℕ). ys ++ l) (drop-drop (length ys) (length xs) old))
+    ∙ ap (λ (l : List ℕ). take p list ++ l)
+    (append-nil rest ∙ g.list-is ∙ ap (λ (l : List ℕ). ys ++ drop (length ys) l) (take_rest list p ∙ behind) ∙ ap (λ (l : List ℕ). ys ++ l) (drop-drop (length ys) (length xs) old))
     ∙ ap (λ (l : List ℕ). l ++ (ys ++ drop (length xs + length ys) old)) front
     ∙ sym (append_assoc xs ys (drop (length xs + length ys) old))
     ∙ ap (λ (k : ℕ). (xs ++ ys) ++ drop k old) (sym (length-append xs ys))

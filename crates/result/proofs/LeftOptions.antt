@@ -93,7 +93,8 @@ module _ (g : Ground) (R : Ready g) where
   unfolding linked_entry
   row_same k h = keep-cong g.on linked_entry (nodes_in g.plan k) (λ y m.
       let e = In-nodes g.plan W k h m in
-      T-same (g.on y) (linked_entry y) (λ u. and_T (g.on y) (leb (start g.plan) y) u (le→leb (start g.plan) y (entry-from g.plan W y e.0))) (λ u. (T_and (g.on y) (leb (start g.plan) y) u).0))
+      T-same (g.on y) (linked_entry y) (λ u. and_T (g.on y) (leb (start g.plan) y) u (le→leb (start g.plan) y (entry-from g.plan W y e.0)))
+      (λ u. (T_and (g.on y) (leb (start g.plan) y) u).0))
 
   shown-most : length (each (λ o. o) (shown g.plan g.on)) ≤ g.plan.N
   unfolding shown

@@ -145,7 +145,9 @@ module _ {g : Ground} {old lists : FourLists} {xs : List Numbered} {nodes : Node
           written =
               written_same old lists' o e
               (ap (λ (k : ℕ). xs ++ column_to g c k) here
-              ∙ ap (λ (l : List Numbered). xs ++ l) (sym (column-over g ready.tidy c a.column r b.stand behind (not_first (some-item (head nodes.heads.now z) i))) ∙ sym (column-next g ready.tidy c a.column r b.stand behind)))
+              ∙ ap (λ (l : List Numbered). xs ++ l)
+              (sym (column-over g ready.tidy c a.column r b.stand behind (not_first (some-item (head nodes.heads.now z) i)))
+              ∙ sym (column-next g ready.tidy c a.column r b.stand behind)))
               b.written;
         })
 
@@ -173,7 +175,8 @@ module _ {g : Ground} {old lists : FourLists} {xs : List Numbered} {nodes : Node
             written = b.written;
           }
 
-          pub place-one : (lists'' : FourLists) (o' e' : ℕ) → Written old lists'' ((xs ++ column_to g c (reach g.plan r)) ++ (option_from g r ∷ [])) o' e' → AtEntry g old lists'' xs c o' e' (at nodes.down.now r)
+          pub place-one : (lists'' : FourLists) (o' e' : ℕ) → Written old lists'' ((xs ++ column_to g c (reach g.plan r)) ++ (option_from g r ∷ [])) o' e'
+              → AtEntry g old lists'' xs c o' e' (at nodes.down.now r)
           place-one lists'' o' e' w = subst (λ (k : ℕ). AtEntry g old lists'' xs c o' e' k) (sym (below r)) (record {
             stand = stand-next g ready.tidy c a.column r b.stand;
             written = written_same old lists'' o' e' (one_more ∙ ap (λ (l : List Numbered). xs ++ l) (sym (column-next g ready.tidy c a.column r b.stand behind))) w;

@@ -94,7 +94,8 @@ module _ {g : Ground} {old lists : FourLists} {xs : List Numbered} {heads : List
       }
         where
           same : keep (full g.heads) (span r (q + 1)) ≡ keep (full g.heads) (span r q)
-          same = keep-over (full g.heads) r q b.from (le-ltb 0 (item_of (head g.heads q)) (omega (arith, ap (λ (l : List ℤ). item_of (head l q)) (sym d.heads-are), item_none (head heads q) i)))
+          same = keep-over (full g.heads) r q b.from
+              (le-ltb 0 (item_of (head g.heads q)) (omega (arith, ap (λ (l : List ℤ). item_of (head l q)) (sym d.heads-are), item_none (head heads q) i)))
 
       module _ (k : ℕ) (s : Some k ≡ column_in (head heads q)) where
         item-is : item_of (head heads q) ≡ k
@@ -139,7 +140,8 @@ module _ {g : Ground} {old lists : FourLists} {xs : List Numbered} {heads : List
         pub reading-colours : e < length colours
         unfolding all
         reading-colours =
-            let l = filled-length old.colours (colours_in xs ++ colours_of (entries_to g r q)) colours e b.colours-in (omega (arith, more, d.room.colours, b.items-in.at-is, b.colours-in.at-is)) in
+            let l = filled-length old.colours (colours_in xs ++ colours_of (entries_to g r q)) colours e b.colours-in
+            (omega (arith, more, d.room.colours, b.items-in.at-is, b.colours-in.at-is)) in
             omega (arith, more, d.room.colours, b.items-in.at-is, l)
 
         pub reading_small : k - 1 < node_bound
@@ -152,12 +154,16 @@ module _ {g : Ground} {old lists : FourLists} {xs : List Numbered} {heads : List
           items-in =
               filled-same old.items (set items e (k - 1)) (e + 1)
               (append_assoc (items_in xs) (items_of (entries_to g r q)) ((k - 1) ∷ [])
-              ∙ ap (λ (l : List ℕ). items_in xs ++ l) (ap (λ (c : ℕ). items_of (entries_to g r q) ++ ((c - 1) ∷ [])) column ∙ sym (map-append (λ (e : Entry). e.item) (entries_to g r q) (entry_at g.plan q ∷ [])) ∙ ap items_of (sym longer)))
+              ∙ ap (λ (l : List ℕ). items_in xs ++ l)
+              (ap (λ (c : ℕ). items_of (entries_to g r q) ++ ((c - 1) ∷ [])) column
+              ∙ sym (map-append (λ (e : Entry). e.item) (entries_to g r q) (entry_at g.plan q ∷ [])) ∙ ap items_of (sym longer)))
               (filled_more old.items (items_in xs ++ items_of (entries_to g r q)) items e b.items-in (k - 1) reading-items);
           colours-in =
               filled-same old.colours (set colours e (at tints q)) (e + 1)
               (append_assoc (colours_in xs) (colours_of (entries_to g r q)) (at tints q ∷ [])
-              ∙ ap (λ (l : List ℕ). colours_in xs ++ l) (ap (λ (k : ℕ). colours_of (entries_to g r q) ++ (k ∷ [])) (d.tinted.tint q node) ∙ sym (map-append (λ (e : Entry). e.colour) (entries_to g r q) (entry_at g.plan q ∷ [])) ∙ ap colours_of (sym longer)))
+              ∙ ap (λ (l : List ℕ). colours_in xs ++ l)
+              (ap (λ (k : ℕ). colours_of (entries_to g r q) ++ (k ∷ [])) (d.tinted.tint q node)
+              ∙ sym (map-append (λ (e : Entry). e.colour) (entries_to g r q) (entry_at g.plan q ∷ [])) ∙ ap colours_of (sym longer)))
               (filled_more old.colours (colours_in xs ++ colours_of (entries_to g r q)) colours e b.colours-in (at tints q) reading-colours);
         }
           where
@@ -211,4 +217,5 @@ module _ {g : Ground} {old lists : FourLists} {xs : List Numbered} {heads : List
       }
         where
           number_is : k.0 ≡ g.plan.number r
-          number_is = sym (option_some (head heads q) k s).1 ∙ ap (λ (l : List ℤ). option_of (head l q)) d.heads-are ∙ ap (λ (k : ℕ). option_of (head g.heads k)) here ∙ ap option_of edge.number
+          number_is = sym (option_some (head heads q) k s).1 ∙ ap (λ (l : List ℤ). option_of (head l q)) d.heads-are
+              ∙ ap (λ (k : ℕ). option_of (head g.heads k)) here ∙ ap option_of edge.number

@@ -25,4 +25,5 @@ pub cleared-alike : (heads heads' : List ℤ) (up up' down down' tints tints' ma
     → cleared (room_lists heads' up' down' tints' marks') ≡ cleared (room_lists heads up down tints marks)
 unfolding cleared
 cleared-alike heads heads' up up' down down' tints tints' marks marks' a b c d e =
-    rw (map_same (pos 0) heads' heads a) (rw (map_same {B = ℕ} 0 up' up b) (rw (map_same {B = ℕ} 0 down' down c) (rw (map_same {B = ℕ} 0 tints' tints d) (rw (map_same {B = ℕ} 0 marks' marks e) refl))))
+    rw (map_same (pos 0) heads' heads a)
+    (rw (map_same {B = ℕ} 0 up' up b) (rw (map_same {B = ℕ} 0 down' down c) (rw (map_same {B = ℕ} 0 tints' tints d) (rw (map_same {B = ℕ} 0 marks' marks e) refl))))

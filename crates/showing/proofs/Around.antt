@@ -89,7 +89,8 @@ module _ (g : Ground) (R : Ready g) where
     pub others-parts : others g y ≡ keep g.on (span (y + 1) (g.plan.past k)) ++ keep g.on (span (g.plan.first k) y)
     unfolding others
     others-parts =
-        ap (λ (b : Bool). cond b (keep (full g.heads) (span (y + 1) y)) (keep (full g.heads) (span (y + 1) (hi g.plan y)) ++ keep (full g.heads) (span (lo g.plan y) y))) (le-ltb y y (omega arith))
+        ap (λ (b : Bool). cond b (keep (full g.heads) (span (y + 1) y))
+        (keep (full g.heads) (span (y + 1) (hi g.plan y)) ++ keep (full g.heads) (span (lo g.plan y) y))) (le-ltb y y (omega arith))
         ∙ ap (λ (b : ℕ). keep (full g.heads) (span (y + 1) b) ++ keep (full g.heads) (span (lo g.plan y) y)) past_is
         ∙ ap (λ (a : ℕ). keep (full g.heads) (span (y + 1) (g.plan.past k)) ++ keep (full g.heads) (span a y)) first-is
         ∙ ap (λ (x : List ℕ). x ++ keep (full g.heads) (span (g.plan.first k) y)) (kept (y + 1) (g.plan.past k) (omega (arith, below)) (omega arith))

@@ -67,8 +67,12 @@ module _ (g : Ground) (R : Ready g) where
       go : (row : List ℕ) → In y row → ((z : ℕ) → In z row → Linked g.plan g.on k z) → ((z : ℕ) → Linked g.plan g.on k z → In z row) → Ordered ◌<◌ row
           → (r : ℕ) × Linked g.plan g.on k r × (full_before g r ≡ false)
       go [] m of to S = absurd (not-nil m)
-      go (r ∷ row) m of to S =
-          (r, of r (here refl), T_false (full_before g r) (any_none (full g.heads) (span (lo g.plan r) r) (λ z n. not_T (full g.heads z) (λ t. let w = before-linked (of r (here refl)) n t in least z (to z w.0) w.1))))
+      go (r ∷ row) m of to S = (
+        r,
+        of r (here refl),
+        T_false (full_before g r)
+            (any_none (full g.heads) (span (lo g.plan r) r) (λ z n. not_T (full g.heads z) (λ t. let w = before-linked (of r (here refl)) n t in least z (to z w.0) w.1))),
+      )
         where
           least : (z : ℕ) → In z (r ∷ row) → z < r → ⊥
           least z (here e) h = omega arith
@@ -105,5 +109,7 @@ module _ (g : Ground) (R : Ready g) where
     begins-uncoloured c e = go (full_before g y) refl
       where
         go : (b : Bool) → full_before g y ≡ b → begins (is_uncoloured c) (option_at (state_of g) k) ≡ (not b && eqb (g.plan.tint y) 0)
-        go true h = T_false (begins (is_uncoloured c) (option_at (state_of g) k)) (not_T (begins (is_uncoloured c) (option_at (state_of g) k)) (λ t. T_not (begins (is c) (option_at (state_of g) k)) (false-T (begins-other c e h)) (begins-plain c (option_at (state_of g) k) t)))
+        go true h = T_false (begins (is_uncoloured c) (option_at (state_of g) k))
+            (not_T (begins (is_uncoloured c) (option_at (state_of g) k))
+            (λ t. T_not (begins (is c) (option_at (state_of g) k)) (false-T (begins-other c e h)) (begins-plain c (option_at (state_of g) k) t)))
         go false h = begins-first h (is_uncoloured c) ∙ ap (λ (b : Bool). b && eqb (g.plan.tint y) 0) (eq-eqb (g.plan.col y - 1) c (col-item g.plan W y c e))

@@ -116,7 +116,8 @@ module _ (g : Ground) (R : Ready g) (c : ℕ) where
     clash-left : (y : ℕ) → EntryOf g.plan y → T (not (holds_uncoloured c (option_at (state_of g) (g.plan.number y))))
         → clashes_at (hiding g c) r y ≡ any (λ x. clashes x (option_at (state_of g) (g.plan.number y))) (map (entry_at g.plan) (others g r))
     clash-left y f t =
-        ap (any (λ x. any (λ p. (hiding g c).on p && eqb (g.plan.col p) (g.plan.col x) && not (agree (g.plan.tint x) (g.plan.tint p))) (nodes_in g.plan (g.plan.number y)))) (hiding-others g R c r e)
+        ap (any (λ x. any (λ p. (hiding g c).on p && eqb (g.plan.col p) (g.plan.col x) && not (agree (g.plan.tint x) (g.plan.tint p)))
+        (nodes_in g.plan (g.plan.number y)))) (hiding-others g R c r e)
         ∙ any-cong (λ x. any (λ p. (hiding g c).on p && eqb (g.plan.col p) (g.plan.col x) && not (agree (g.plan.tint x) (g.plan.tint p))) (nodes_in g.plan (g.plan.number y)))
         (λ x. clashes (entry_at g.plan x) v) (others g r) (λ x m. one x (In-others g R.tidy r e m).0)
         ∙ sym (any-map (entry_at g.plan) (λ x. clashes x v) (others g r))
@@ -125,7 +126,8 @@ module _ (g : Ground) (R : Ready g) (c : ℕ) where
         v = option_at (state_of g) (g.plan.number y)
 
         one : (x : ℕ) → EntryOf g.plan x
-            → any (λ p. (hiding g c).on p && eqb (g.plan.col p) (g.plan.col x) && not (agree (g.plan.tint x) (g.plan.tint p))) (nodes_in g.plan (g.plan.number y)) ≡ clashes (entry_at g.plan x) v
+            → any (λ p. (hiding g c).on p && eqb (g.plan.col p) (g.plan.col x) && not (agree (g.plan.tint x) (g.plan.tint p)))
+            (nodes_in g.plan (g.plan.number y)) ≡ clashes (entry_at g.plan x) v
         one x d = T-same (any test (nodes_in g.plan (g.plan.number y))) (clashes (entry_at g.plan x) v) forth back
           where
             test : ℕ → Bool
@@ -157,7 +159,8 @@ module _ (g : Ground) (R : Ready g) (c : ℕ) where
         → all (λ y. not (in_column (hiding g c) (q + 1) y) || clashes_at (hiding g c) r y) (nodes_of (hiding g c))
         ≡ all (λ v. not (holds q v) || any (λ x. clashes x v) (map (entry_at g.plan) (others g r))) (hidden_state c (state_of g))
     all_left q n =
-        T-same (all there (nodes_of (hiding g c))) (all left (hidden_state c (state_of g))) (λ t. all← left (hidden_state c (state_of g)) (λ v m. imp-T (holds q v) (meets v) (λ h. forth t v m h)))
+        T-same (all there (nodes_of (hiding g c))) (all left (hidden_state c (state_of g)))
+        (λ t. all← left (hidden_state c (state_of g)) (λ v m. imp-T (holds q v) (meets v) (λ h. forth t v m h)))
         (λ t. all← there (nodes_of (hiding g c)) (λ y m. imp-T (in_column (hiding g c) (q + 1) y) (clashes_at (hiding g c) r y) (λ h. back t y h)))
       where
         meets : List Entry → Bool
@@ -190,13 +193,16 @@ module _ (g : Ground) (R : Ready g) (c : ℕ) where
             subst (λ (b : Bool). T b) (sym (clash-left y w.0 w.3))
             (T-imp (holds q v) (meets v) u (node-holds g.plan W g.on (g.plan.number y) y q (own-option g.plan W g.on w.0 w.1) w.2))
 
-    shuts_out : (q : ℕ) → shut_at (hiding g c) r (q + 1) ≡ shut_out (λ v. any (λ x. clashes x v) (map (entry_at g.plan) (others g r))) (hidden_state c (state_of g)) (option_at (state_of g) (g.plan.number r)) q
+    shuts_out : (q : ℕ) → shut_at (hiding g c) r (q + 1) ≡ shut_out (λ v. any (λ x. clashes x v) (map (entry_at g.plan) (others g r))) (hidden_state c (state_of g))
+        (option_at (state_of g) (g.plan.number r)) q
     shuts_out q =
-        ap (λ (b : Bool). not b && any (in_column (hiding g c) (q + 1)) (nodes_of (hiding g c)) && all (λ y. not (in_column (hiding g c) (q + 1) y) || clashes_at (hiding g c) r y) (nodes_of (hiding g c))) (own-items q)
+        ap (λ (b : Bool). not b && any (in_column (hiding g c) (q + 1)) (nodes_of (hiding g c)) && all
+        (λ y. not (in_column (hiding g c) (q + 1) y) || clashes_at (hiding g c) r y) (nodes_of (hiding g c))) (own-items q)
         ∙ go (holds q (option_at (state_of g) (g.plan.number r))) refl
       where
         go : (b : Bool) → holds q (option_at (state_of g) (g.plan.number r)) ≡ b
-            → (not b && any (in_column (hiding g c) (q + 1)) (nodes_of (hiding g c)) && all (λ y. not (in_column (hiding g c) (q + 1) y) || clashes_at (hiding g c) r y) (nodes_of (hiding g c)))
+            → (not b && any (in_column (hiding g c) (q + 1)) (nodes_of (hiding g c)) && all
+            (λ y. not (in_column (hiding g c) (q + 1) y) || clashes_at (hiding g c) r y) (nodes_of (hiding g c)))
             ≡ (not b && in_live q (hidden_state c (state_of g)) && all (λ v. not (holds q v) || any (λ x. clashes x v) (map (entry_at g.plan) (others g r))) (hidden_state c (state_of g)))
         go true h = refl
         go false h =
@@ -211,7 +217,8 @@ module _ (g : Ground) (R : Ready g) (c : ℕ) where
         ap (λ (h : Ground). any (shut_at h r) (from 1 np)) (hiding-is g c)
         ∙ ap (any (shut_at (hiding g c) r)) (from-items np 0)
         ∙ any-map (λ q. q + 1) (shut_at (hiding g c) r) (up_to np)
-        ∙ any-cong (λ q. shut_at (hiding g c) r (q + 1)) (shut_out (λ v. any (λ x. clashes x v) (map (entry_at g.plan) (others g r))) (hidden_state c (state_of g)) (option_at (state_of g) (g.plan.number r))) (up_to np)
+        ∙ any-cong (λ q. shut_at (hiding g c) r (q + 1))
+        (shut_out (λ v. any (λ x. clashes x v) (map (entry_at g.plan) (others g r))) (hidden_state c (state_of g)) (option_at (state_of g) (g.plan.number r))) (up_to np)
         (λ q m. shuts_out q)
         ∙ sym (blocked-any-order np (state_of g) c n (option_at (state_of g) (g.plan.number r)) begin (map (entry_at g.plan) (others g r)) rest-are)
       where

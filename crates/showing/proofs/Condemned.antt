@@ -54,7 +54,8 @@ module _ (g : Ground) (R : Ready g) (np c : ℕ) (n : chosen np (state_of g) c �
       T_not (holds c (option_at (state_of g) k)) t (uncoloured-holds c (option_at (state_of g) k) (condemned-holds np (state_of g) c (option_at (state_of g) k) u))))
 
   -- The walk's test, at a node.
-  pub condemned→ : (y : ℕ) → condemned_at np c g y ≡ true → EntryOf g.plan y × (g.on y ≡ true) × (g.plan.col y ≡ c + 1) × (full_before g y ≡ false) × T (condemned np (state_of g) c (option_at (state_of g) (g.plan.number y)))
+  pub condemned→ : (y : ℕ) → condemned_at np c g y ≡ true → EntryOf g.plan y × (g.on y ≡ true) × (g.plan.col y ≡ c + 1) × (full_before g y ≡ false)
+      × T (condemned np (state_of g) c (option_at (state_of g) (g.plan.number y)))
   condemned→ y e =
       let w = T_and (in_column g (c + 1) y) (not (full_before g y) && eqb (g.plan.tint y) 0 && node_blocked (taken g (hides g (c + 1))) y np) (true-T e) in
       let v = column→ g R.tidy (c + 1) y w.0 in
@@ -85,7 +86,8 @@ module _ (g : Ground) (R : Ready g) (np c : ℕ) (n : chosen np (state_of g) c �
     numbers = ap (map g.plan.number) e ∙ map-reverse g.plan.number (keep (condemned_at np c g) (up_to g.plan.N)) ∙ ap reverse condemned-numbers;
   }
     where
-      facts : (r : ℕ) → In r rs → EntryOf g.plan r × (g.on r ≡ true) × (g.plan.col r ≡ c + 1) × (full_before g r ≡ false) × T (condemned np (state_of g) c (option_at (state_of g) (g.plan.number r)))
+      facts : (r : ℕ) → In r rs → EntryOf g.plan r × (g.on r ≡ true) × (g.plan.col r ≡ c + 1) × (full_before g r ≡ false)
+          × T (condemned np (state_of g) c (option_at (state_of g) (g.plan.number r)))
       facts r m =
           condemned→ r
           (T_true (condemned_at np c g r)

@@ -93,7 +93,8 @@ module _ (g : Ground) (R : Ready g) (c : ℕ) where
         ∙ ap (each (others g)) (by_rows g.plan W chosen (λ y e. (picks y e).0) 0 (omega arith))
         ∙ each-each (λ k. keep chosen (nodes_in g.plan k)) (others g) (up_to g.plan.M))
         ∙ map_each (item_at g.plan) (λ k. each (others g) (keep chosen (nodes_in g.plan k))) (up_to g.plan.M)
-        ∙ each-cong (λ k. map (item_at g.plan) (each (others g) (keep chosen (nodes_in g.plan k)))) (λ k. given (option_at (state_of g) k)) (up_to g.plan.M) (λ k m. in_row k (In-up_to g.plan.M m))
+        ∙ each-cong (λ k. map (item_at g.plan) (each (others g) (keep chosen (nodes_in g.plan k)))) (λ k. given (option_at (state_of g) k)) (up_to g.plan.M)
+        (λ k m. in_row k (In-up_to g.plan.M m))
         ∙ sym (each_map (option_at (state_of g)) given (up_to g.plan.M))
         ∙ ap (each given) (sym (shown-options g.plan W g.on))
       where
@@ -110,7 +111,8 @@ module _ (g : Ground) (R : Ready g) (c : ℕ) where
       gathered (hidden g (c + 1)) (holds_uncoloured c) hidden-picks tests
       ∙ each-cong (λ o. cond (holds c o && holds_uncoloured c o) (around c o) []) (λ o. cond (holds_uncoloured c o) (around c o) []) (state_of g)
       (λ o m. ap (λ (b : Bool). cond b (around c o) [])
-      (T-same (holds c o && holds_uncoloured c o) (holds_uncoloured c o) (λ u. (T_and (holds c o) (holds_uncoloured c o) u).1) (λ u. and_T (holds c o) (holds_uncoloured c o) (uncoloured-holds c o u) u)))
+      (T-same (holds c o && holds_uncoloured c o) (holds_uncoloured c o) (λ u. (T_and (holds c o) (holds_uncoloured c o) u).1)
+      (λ u. and_T (holds c o) (holds_uncoloured c o) (uncoloured-holds c o u) u)))
     where
       tests : (y : ℕ) → EntryOf g.plan y → g.on y ≡ true → g.plan.col y ≡ c + 1 → hidden g (c + 1) y ≡ holds_uncoloured c (option_at (state_of g) (g.plan.number y))
       tests y e o i =

@@ -136,12 +136,14 @@ module _ (P : Plan) (W : Planned P) where
         (and_T (on y && eqb (P.col y) i) (leb (start P) y) (and_T (on y) (eqb (P.col y) i) (true-T o) (eq→eqb (P.col y) i c)) (le→leb (start P) y (entry-from P W y e)))
 
     in_row : (q k : ℕ) → k < P.M → length (keep (column_entry (q + 1)) (nodes_in P k)) ≡ cond (holds q (shown_row P on k)) 1 0
-    in_row q k h = subst (λ (o : List Entry). length (keep (column_entry (q + 1)) (nodes_in P k)) ≡ cond (holds q o) 1 0) (shown-at P W on k h) (go (T-dec (holds q (option_at (shown P on) k))))
+    in_row q k h = subst (λ (o : List Entry). length (keep (column_entry (q + 1)) (nodes_in P k)) ≡ cond (holds q o) 1 0) (shown-at P W on k h)
+        (go (T-dec (holds q (option_at (shown P on) k))))
       where
         column : (y : ℕ) → column_entry (q + 1) y ≡ true → P.col y ≡ q + 1
         column y e = (column-entry (q + 1) y e).1
 
-        go : T (holds q (option_at (shown P on) k)) ⊎ T (not (holds q (option_at (shown P on) k))) → length (keep (column_entry (q + 1)) (nodes_in P k)) ≡ cond (holds q (option_at (shown P on) k)) 1 0
+        go : T (holds q (option_at (shown P on) k)) ⊎ T (not (holds q (option_at (shown P on) k)))
+            → length (keep (column_entry (q + 1)) (nodes_in P k)) ≡ cond (holds q (option_at (shown P on) k)) 1 0
         go (inl t) =
             let w = holds-node P W on k q t in
             rw (T_true (holds q (option_at (shown P on) k)) t, row_one (column_entry (q + 1)) (q + 1) column k h w.0 w.1.entry w.1.option (entry-column (q + 1) w.0 w.1.entry w.1.is-on w.2))

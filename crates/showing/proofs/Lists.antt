@@ -42,7 +42,8 @@ module _ {A B : Type 0} where
   keep-map f g [] = refl
   keep-map f g (x ∷ l) = go (f (g x)) (keep-map f g l)
     where
-      go : (b : Bool) → keep f (map g l) ≡ map g (keep (λ x. f (g x)) l) → cond b (g x ∷ keep f (map g l)) (keep f (map g l)) ≡ map g (cond b (x ∷ keep (λ x. f (g x)) l) (keep (λ x. f (g x)) l))
+      go : (b : Bool) → keep f (map g l) ≡ map g (keep (λ x. f (g x)) l)
+          → cond b (g x ∷ keep f (map g l)) (keep f (map g l)) ≡ map g (cond b (x ∷ keep (λ x. f (g x)) l) (keep (λ x. f (g x)) l))
       go true e = ap (λ (z : List B). g x ∷ z) e
       go false e = e
 

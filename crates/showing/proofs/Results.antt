@@ -73,7 +73,8 @@ module _ (g : Ground) (R : Ready g) where
             w.0,
             l.entry,
             l.option,
-            T_true (first_in g (c + 1) w.0) (and_T (in_column g (c + 1) w.0) (not (full_before g w.0)) (column← g R.tidy (c + 1) w.0 l.entry l.is-on w.2) (subst (λ (b : Bool). T b) (begins-node g R l c w.2) t)),
+            T_true (first_in g (c + 1) w.0)
+                (and_T (in_column g (c + 1) w.0) (not (full_before g w.0)) (column← g R.tidy (c + 1) w.0 l.entry l.is-on w.2) (subst (λ (b : Bool). T b) (begins-node g R l c w.2) t)),
           )
 
   -- the entries of such an option, in the order of a walk from its first node
@@ -84,7 +85,8 @@ module _ (g : Ground) (R : Ready g) where
 
   pub kept-options : (n : ℕ) → kept_options n (state_of g) ≡ each (λ c. map (option_from g) (keep (first_in g (c + 1)) (up_to g.plan.N))) (up_to n)
   unfolding kept_options
-  kept-options n = each-cong (λ c. keep (λ x. begins (is c) x.entries) (numbered 0 (state_of g))) (λ c. map (option_from g) (keep (first_in g (c + 1)) (up_to g.plan.N))) (up_to n) (λ c m. one c)
+  kept-options n = each-cong (λ c. keep (λ x. begins (is c) x.entries) (numbered 0 (state_of g)))
+      (λ c. map (option_from g) (keep (first_in g (c + 1)) (up_to g.plan.N))) (up_to n) (λ c m. one c)
     where
       under : ℕ → Numbered
       under k = record { number = k; entries = option_at (state_of g) k }

@@ -62,7 +62,8 @@ module _ (g : Ground) (R : Ready g) where
         ap (λ (b : Bool). g.on y && (b || (not (eqb (g.plan.col y) (c + 1)) && (not (holds_column g (g.plan.number y) (c + 1)) || holds_column g (g.plan.number y) (p + 1)))))
         (le-ltb y (start g.plan) (entry-from g.plan W y e))
         ∙ ap (λ (b : Bool). g.on y && (not (eqb (g.plan.col y) (c + 1)) && (not b || holds_column g (g.plan.number y) (p + 1)))) (column-holds g R.tidy (g.plan.number y) c e.option)
-        ∙ ap (λ (b : Bool). g.on y && (not (eqb (g.plan.col y) (c + 1)) && (not (holds c (option_at (state_of g) (g.plan.number y))) || b))) (column-holds g R.tidy (g.plan.number y) p e.option)
+        ∙ ap (λ (b : Bool). g.on y && (not (eqb (g.plan.col y) (c + 1)) && (not (holds c (option_at (state_of g) (g.plan.number y))) || b)))
+        (column-holds g R.tidy (g.plan.number y) p e.option)
         ∙ ap (λ (j : ℕ). g.on y && (not (eqb (g.plan.col y) (c + 1)) && (not (holds c (option_at (state_of g) j)) || holds p (option_at (state_of g) j)))) n
 
     row-after : (k : ℕ) → k < g.plan.M → shown_row g.plan (mask_without g (c + 1) (p + 1)) k ≡ shortened c p (shown_row g.plan g.on k)

@@ -11,7 +11,8 @@ use Rattle.rules.specs.declared.answer.Cause.{Cause}
 use Rattle.rules.specs.declared.answer.Cause.TheVariants.{Start, Redundant, Blocked}
 use Rattle.rules.specs.declared.number.Item.{Item}
 use Rattle.rules.specs.declared.refusal.Check.{Check}
-use Rattle.rules.specs.declared.refusal.Check.TheVariants.{NoPrimary, TooManyItems, NoOption, TooManyOptions, Uneven, TooManyEntries, WrongEnd, ShortRoom, ShortResult, NoSuchItem, ColourTooHigh, ColouredPrimary, ItemTwice}
+use Rattle.rules.specs.declared.refusal.Check.TheVariants.{NoPrimary, TooManyItems, NoOption, TooManyOptions, Uneven, TooManyEntries}
+use Rattle.rules.specs.declared.refusal.Check.TheVariants.{WrongEnd, ShortRoom, ShortResult, NoSuchItem, ColourTooHigh, ColouredPrimary, ItemTwice}
 use Rattle.rules.specs.declared.refusal.Refusal.{Refusal}
 use Rattle.rules.specs.Checks.{Refusal as PaperRefusal}
 use Rattle.rules.specs.Refusals.{number_of, as_paper}

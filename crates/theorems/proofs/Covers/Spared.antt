@@ -10,7 +10,8 @@ use Rattle.rules.specs.Problem.{Entry}
 use Rattle.rules.specs.State.{State, option_at, holds, holds_uncoloured, in_live}
 use Rattle.rules.specs.Blocked.{agree, clashes, rival, condemned, state_spared}
 use Rattle.theorems.proofs.Steps.States.{uncoloured-holds, primary→, holds-In, live←, at-live}
-use Rattle.theorems.proofs.Steps.Blocking.{agree←, clashes→, rival→, Blocks, blocked→, condemned→, condemned-holds, spare, spare-same, spare-sub, spared-at, spared-live, stays-spared, emptied-blocked, emptied_blocked}
+use Rattle.theorems.proofs.Steps.Blocking.{agree←, clashes→, rival→, Blocks, blocked→, condemned→, condemned-holds}
+use Rattle.theorems.proofs.Steps.Blocking.{spare, spare-same, spare-sub, spared-at, spared-live, stays-spared, emptied-blocked, emptied_blocked}
 use Rattle.theorems.proofs.Covers.State.{StateCover, cover-same, shared-agree, uncoloured-alone}
 
 module _ {np : ℕ} (s : State) {ks : List ℕ} (C : StateCover np s ks) where

@@ -11,7 +11,8 @@ use Rattle.rules.specs.State.{State, option_at, holds, holds_uncoloured, holds_p
 use Rattle.rules.specs.Redundant.{shortened, state_without}
 use Rattle.theorems.proofs.Words.Tests.{T-dec, neqb→ne}
 use Rattle.theorems.proofs.Steps.States.{holds←, uncoloured-holds, primary→, primary←, holds-primary, holds-In, at-live}
-use Rattle.theorems.proofs.Steps.Redundancy.{Redundant, not-leaving, shortened_same, shortened-deleted, shortened-sub, shortened-stays, shortened-holds, holds-shortened, without_at, without-live, without-p, stays-live, emptied-with, emptied_with}
+use Rattle.theorems.proofs.Steps.Redundancy.{Redundant, not-leaving, shortened_same, shortened-deleted, shortened-sub, shortened-stays, shortened-holds}
+use Rattle.theorems.proofs.Steps.Redundancy.{holds-shortened, without_at, without-live, without-p, stays-live, emptied-with, emptied_with}
 use Rattle.theorems.proofs.Covers.State.{StateCover, cover-smaller, uncoloured-alone}
 
 -- an option that holds p holds c uncoloured

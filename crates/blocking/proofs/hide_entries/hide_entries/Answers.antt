@@ -25,7 +25,8 @@ inner c h w l =
     c.loop-qq.invariant.1 h (round m (omega (arith, c.loop-nodes-test.true, v.invariant.0.start)) (sym c.clash.ensures ∙ c.if-clash.true))
 
 -- rr was dealt with, rival or not
-passed : (c : Joined-clash) (h : Ground) → in_nodes (Middle h c.args.tints.now c.args.marks.now c.args.r c.args.nodes.now.start c.args.nodes.now.np c.loop-q.q c.loop-nodes.rr) c.loop-nodes.nodes
+passed : (c : Joined-clash) (h : Ground)
+    → in_nodes (Middle h c.args.tints.now c.args.marks.now c.args.r c.args.nodes.now.start c.args.nodes.now.np c.loop-q.q c.loop-nodes.rr) c.loop-nodes.nodes
     → in_nodes (Passed h c.args.tints.now c.args.marks.now c.args.r c.args.nodes.now.start c.args.nodes.now.np c.loop-q.q c.loop-nodes.rr) c.if-clash.nodes
 passed c h m =
     let b : c.args.nodes.now.start ≤ c.loop-nodes.rr = omega (arith, c.loop-nodes-test.true, c.loop-nodes.invariant.0.start) in
@@ -49,7 +50,8 @@ pub loop-q-smaller-in_default : goal.loop-q-smaller-in_default
 loop-q-smaller-in_default c =
     let o = c.loop-q in
     rw c.above-q.ensures.node
-    (outer-over-way (o.invariant.1 c.requires.0 c.requires.1 c.requires.2) c.loop-q-test.true (sym c.in_default.is ∙ c.column.ensures) (length c.args.nodes.now.heads.now) o.invariant.0.heads-long)
+    (outer-over-way (o.invariant.1 c.requires.0 c.requires.1 c.requires.2) c.loop-q-test.true (sym c.in_default.is ∙ c.column.ensures)
+    (length c.args.nodes.now.heads.now) o.invariant.0.heads-long)
 
 pub loop-q-preserved-in_default : goal.loop-q-preserved-in_default
 loop-q-preserved-in_default c =

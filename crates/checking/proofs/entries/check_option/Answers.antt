@@ -10,7 +10,9 @@ returns-in_err-check_entry-clause-answer c =
     let r = c.requires.n_in_bounds in
     let l = c.loop-j in
     let R = l.invariant.1 in
-    handed-on _ _ c.from_residual.ensures.1 (sym (option-refused g.limits.np g.limits.n g.limits.colour g.a g.b g.mark g.items.now g.colours.now l.marks l.j R r.3 c.loop-j-test.true r.2 _ (sym (c.in_err-check_entry.ensures R.seen R.marked))))
+    handed-on _ _ c.from_residual.ensures.1
+    (sym (option-refused g.limits.np g.limits.n g.limits.colour g.a g.b g.mark g.items.now g.colours.now l.marks l.j R r.3 c.loop-j-test.true r.2 _
+    (sym (c.in_err-check_entry.ensures R.seen R.marked))))
 
 pub bounds-marks-item : goal.bounds-marks-item
 bounds-marks-item c =
@@ -25,5 +27,8 @@ loop-j-preserved c =
     let g = c.args in
     let r = c.requires.n_in_bounds in
     let l = c.loop-j in
-    let R = l.invariant.1 in
-    (simp length-set l.invariant.0, option-next g.limits.np g.limits.n g.limits.colour g.a g.b g.mark g.items.now g.colours.now l.marks l.j R r.3 c.loop-j-test.true r.2 (omega (arith, l.invariant.0, r.0)) (sym (c.in_ok-check_entry.ensures R.seen R.marked)))
+    let R = l.invariant.1 in (
+      simp length-set l.invariant.0,
+      option-next g.limits.np g.limits.n g.limits.colour g.a g.b g.mark g.items.now g.colours.now l.marks l.j R r.3 c.loop-j-test.true
+          r.2 (omega (arith, l.invariant.0, r.0)) (sym (c.in_ok-check_entry.ensures R.seen R.marked)),
+    )

@@ -45,6 +45,10 @@ loop-nodes-preserved c =
       λ g i s w.
           let p = v.4 g i s w in
           let b = rw v.0.start at c.loop-nodes-test.true in
-          let f = t.found g i p.0 p.1 (rw (v.1, v.2, v.3, v.0.np, v.0.start) (find-trying s w p.2 b)) in
-          (f.0, f.1, subst (Found g i c.args.nodes.now.np f.0 c.test_at-stack.new.tints c.test_at-stack.new.marks) (sym down) (find-next s w p.2 b {z' = f.0} (subst (λ (k : ℕ). Tried g i k (c.loop-nodes.r + 1) f.0 c.test_at-stack.new.tints c.test_at-stack.new.marks) v.0.np f.2))),
+          let f = t.found g i p.0 p.1 (rw (v.1, v.2, v.3, v.0.np, v.0.start) (find-trying s w p.2 b)) in (
+            f.0,
+            f.1,
+            subst (Found g i c.args.nodes.now.np f.0 c.test_at-stack.new.tints c.test_at-stack.new.marks) (sym down)
+                (find-next s w p.2 b {z' = f.0} (subst (λ (k : ℕ). Tried g i k (c.loop-nodes.r + 1) f.0 c.test_at-stack.new.tints c.test_at-stack.new.marks) v.0.np f.2)),
+          ),
     )

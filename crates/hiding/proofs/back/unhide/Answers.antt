@@ -45,7 +45,8 @@ loop-nodes-smaller c =
     let g = c.requires.0 in
     let w = c.requires.1 in
     let k = c.requires.2 in
-    next-less w (c.loop-nodes.invariant.1 g w k).stand (omega (arith, c.loop-nodes.invariant.0.start)) (dealt c g w k) c.below-rr-in-loop-nodes.ensures.node (length c.args.nodes.now.heads.now) (room w k)
+    next-less w (c.loop-nodes.invariant.1 g w k).stand (omega (arith, c.loop-nodes.invariant.0.start)) (dealt c g w k) c.below-rr-in-loop-nodes.ensures.node
+    (length c.args.nodes.now.heads.now) (room w k)
 
 pub loop-nodes-preserved : goal.loop-nodes-preserved
 loop-nodes-preserved c = (

@@ -2,7 +2,8 @@
 use Rattle.std.proofs.Common.{sym, ◌∙◌, arith, map}
 use Rattle.std.proofs.lemmas.List.{length-map}
 use Rattle.renumbering.proofs.Refusing.{not-rising, no-primary, above-length, sound-from, too_short, missing_at, nothing-wrong}
-use Rattle.renumbering.proofs.checks.check.Goals.{then-not-is_rising-via-then-not-is_rising, then-not-is_rising-via-else-not-is_rising+then-primaries-eq0, then-not-is_rising-via-else-not-is_rising+else-primaries-eq0+then-kept-primaries}
+use Rattle.renumbering.proofs.checks.check.Goals.{then-not-is_rising-via-then-not-is_rising}
+use Rattle.renumbering.proofs.checks.check.Goals.{then-not-is_rising-via-else-not-is_rising+then-primaries-eq0, then-not-is_rising-via-else-not-is_rising+else-primaries-eq0+then-kept-primaries}
 use Rattle.renumbering.proofs.checks.check.Goals as goal
 
 pub returns-then-not-is_rising : goal.returns-then-not-is_rising

@@ -27,7 +27,8 @@ loop-q-preserved c =
 
 pub returns-else-below-q : goal.returns-else-below-q
 returns-else-below-q c =
-    λ g m. led-done g c.args.r c.args.self.now.heads.now c.args.self.now.down.now m c.loop-q.q (c.loop-q.invariant g m) (inr (λ e. c.if-below-q.false (ap (λ (z : ℕ). z + 1) c.below.ensures.node ∙ e)))
+    λ g m. led-done g c.args.r c.args.self.now.heads.now c.args.self.now.down.now m c.loop-q.q (c.loop-q.invariant g m)
+    (inr (λ e. c.if-below-q.false (ap (λ (z : ℕ). z + 1) c.below.ensures.node ∙ e)))
 
 pub returns-after-loop-q : goal.returns-after-loop-q
 returns-after-loop-q c =
