@@ -144,8 +144,11 @@ module _ {g : Ground} {old lists : FourLists} {xs : List Numbered} {heads : List
             (omega (arith, more, d.room.colours, b.items-in.at-is, b.colours-in.at-is)) in
             omega (arith, more, d.room.colours, b.items-in.at-is, l)
 
-        pub reading_small : k - 1 < node_bound
-        reading_small = omega (arith, column, header-before g.plan W (g.plan.col q) (W.entry q node), W.room, W.small)
+        pub reading-column : (0 < k) × (k < node_bound)
+        reading-column = (
+          omega (arith, item-is, i),
+          omega (arith, column, header-before g.plan W (g.plan.col q) (W.entry q node), W.room, W.small),
+        )
 
         pub reading-one : Reading g old xs r (set items e (k - 1)) (set colours e (at tints q)) (e + 1) (q + 1)
         reading-one = record {

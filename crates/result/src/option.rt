@@ -8,8 +8,8 @@ ghost use Rattle.result.specs.Writer.{SameWriter, lists_of};
 ghost use Rattle.result.specs.Reading.{OptionAt};
 
 use crate::writer::Writer;
+use links::item::item_of_column;
 use links::nodes::Nodes;
-use rules::number::Item;
 
 // Writes the option of r from r on, behind what is written: its live entries up to the boundary, with their colours, the end of its entries, and
 // its number, which the boundary holds. Shortened entries are passed over. With r its first live entry that is all of the option: the Rust goes
@@ -30,7 +30,7 @@ pub fn get_option(nodes: &Nodes, tints: &[u32], r: usize, out: &mut Writer)
         }
         let column = nodes.column(q);
         if let Some(c) = column {
-            out.put(Item::from((c - 1) as u32), tints[q]);
+            out.put(item_of_column(c), tints[q]);
         }
         q += 1;
     };

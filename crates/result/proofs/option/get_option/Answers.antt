@@ -1,8 +1,8 @@
 -- `result::option::get_option` meets its contract: at node q the live entries before q are written; at the boundary the end and the number follow.
 -- Assumes nothing.
-use Rattle.std.proofs.Common.{arith, ◌∙◌}
+use Rattle.std.proofs.Common.{◌≡◌, ◌-◌, ◌∙◌, arith}
 use Rattle.result.proofs.SameWriter.{writer-then}
-use Rattle.result.proofs.OneOption.{reading-heads, reading-tints, reading-over, reading-items, reading-colours, reading_small, reading-one, reading-fits, reading-ends, reading-numbers, reading-done}
+use Rattle.result.proofs.OneOption.{reading-heads, reading-tints, reading-over, reading-items, reading-colours, reading-column, reading-one, reading-fits, reading-ends, reading-numbers, reading-done}
 use Rattle.result.proofs.option.get_option.Goals.{in-Some-column, in_default-column}
 use Rattle.result.proofs.option.get_option.Goals as goal
 
@@ -12,10 +12,8 @@ option-requires c = let p = c.requires in reading-heads p.3 (c.loop-k.invariant.
 pub column-column-requires : goal.column-column-requires
 column-column-requires c = let p = c.requires in reading-heads p.3 (c.loop-k.invariant.4 p.0 p.1 p.2 p.3)
 
-pub overflow_cast-c : goal.overflow_cast-c
-overflow_cast-c c =
-    let p = c.requires in
-    omega (arith, reading_small p.3 (c.loop-k.invariant.4 p.0 p.1 p.2 p.3) (cc) c.in-Some-column.c (cc))
+pub item_of_column-requires : goal.item_of_column-requires
+item_of_column-requires c = let p = c.requires in reading-column p.3 (c.loop-k.invariant.4 p.0 p.1 p.2 p.3) (cc) c.in-Some-column.c (cc)
 
 pub bounds-tints-q : goal.bounds-tints-q
 bounds-tints-q c = let p = c.requires in reading-tints p.3 (c.loop-k.invariant.4 p.0 p.1 p.2 p.3)
@@ -36,13 +34,15 @@ pub loop-k-preserved : goal.loop-k-preserved
 loop-k-preserved c =
     let v = c.loop-k.invariant in
     elim c.match-column.branch [
-      | in-Some-column w ↦ rw w.out-is (
-        writer-then v.0 w.put.ensures.lists,
-        w.put.ensures.ends ∙ v.1,
-        w.put.ensures.numbers ∙ v.2,
-        w.put.ensures.option ∙ v.3,
-        λ g old xs d. rw (w.put.ensures.items, w.put.ensures.colours, w.put.ensures.entry, w.from.ensures) (reading-one d (v.4 g old xs d) (cc) w.in-Some-column.c (cc)),
-      )
+      | in-Some-column w ↦
+          let item : w.item_of_column.result.0 ≡ w.in-Some-column.c - 1 = omega (arith, w.item_of_column.ensures) in
+          rw w.out-is (
+            writer-then v.0 w.put.ensures.lists,
+            w.put.ensures.ends ∙ v.1,
+            w.put.ensures.numbers ∙ v.2,
+            w.put.ensures.option ∙ v.3,
+            λ g old xs d. rw (w.put.ensures.items, w.put.ensures.colours, w.put.ensures.entry, item) (reading-one d (v.4 g old xs d) (cc) w.in-Some-column.c (cc)),
+          )
       | in_default-column w ↦ rw w.out-is (v.0, v.1, v.2, v.3, λ g old xs d. reading-over d (v.4 g old xs d) (cc) (cc))
     ]
 
