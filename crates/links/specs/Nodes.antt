@@ -29,7 +29,7 @@ abbrev pub column : ℕ → Option ℕ
 column zero = None
 column (suc i) = Some (suc i)
 
--- the item of a head: above 0 the item + 1, else there is none
+-- the column of a head: above 0 the item + 1, else there is none
 abbrev pub column_in : ℤ → Option ℕ
 column_in (pos i) = column i
 column_in (negsuc k) = None

@@ -4,7 +4,7 @@
 // the boundary after option k; a header's head is the length of its column. The fourth list, of colours, is lent beside `Nodes`: a colour is
 // a number, as C lends the list, and 0 is none.
 //
-// Every number that the lists hold is below 1048576, 2 to the 20: so a contract says it as it is, for a word in its place would hide the number.
+// Every number that the lists hold is below `node_bound`, 2 to the 20 (crates/rules/specs/Bounds.antt).
 //
 // The methods and functions of this crate are the leaves that the walks above it call: each but `column_of` has a `requires`, and none is a public call.
 #![tactic(auto)]
