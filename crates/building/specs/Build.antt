@@ -32,24 +32,24 @@ pub record Spelled (P : Plan) (x j : ℕ) (items colours : List ℕ) : Type 0 wh
   pub col : P.col x ≡ at items j + 1
   pub tint : P.tint x ≡ at colours j
 
--- Everything below node p + 1 is laid out, and from there on the plan has the entries of an option's lists.
-pub record Filling (P : Plan) (p : ℕ) (items colours : List ℕ) (heads : List ℤ) (up down tints : List ℕ) : Type 0 where
+-- Everything below node edge + 1 is laid out, and from there on the plan has the entries of an option's lists.
+pub record Filling (P : Plan) (edge : ℕ) (items colours : List ℕ) (heads : List ℤ) (up down tints : List ℕ) : Type 0 where
   pub planned : Planned P
-  pub spelled : (j : ℕ) → j < length items → Spelled P (p + 1 + j) j items colours
-  pub so_far : Open P 0 (p + 1) heads up down tints
+  pub spelled : (j : ℕ) → j < length items → Spelled P (edge + 1 + j) j items colours
+  pub so_far : Open P 0 (edge + 1) heads up down tints
 
--- Option k is next, behind the boundary p: the plan has the entries of its lists if one of them is primary.
-pub record Turn (P : Plan) (np k p : ℕ) (items colours : List ℕ) (heads : List ℤ) (up down tints : List ℕ) : Type 0 where
+-- Option k is next, behind the boundary edge: the plan has the entries of its lists if one of them is primary.
+pub record Turn (P : Plan) (np k edge : ℕ) (items colours : List ℕ) (heads : List ℤ) (up down tints : List ℕ) : Type 0 where
   pub planned : Planned P
   pub option : k < P.M
-  pub first : P.first k ≡ p + 1
-  pub past : primary_in np items ≡ true → P.past k ≡ p + 1 + length items
-  pub spelled : primary_in np items ≡ true → (j : ℕ) → j < length items → Spelled P (p + 1 + j) j items colours
-  pub so_far : Open P 0 (p + 1) heads up down tints
+  pub first : P.first k ≡ edge + 1
+  pub past : primary_in np items ≡ true → P.past k ≡ edge + 1 + length items
+  pub spelled : primary_in np items ≡ true → (j : ℕ) → j < length items → Spelled P (edge + 1 + j) j items colours
+  pub so_far : Open P 0 (edge + 1) heads up down tints
 
 -- the boundary behind it, where the next option is to go
 abbrev pub behind : ℕ → ℕ → List ℕ → ℕ
-behind np p items = cond (primary_in np items) (p + 1 + length items) p
+behind np edge items = cond (primary_in np items) (edge + 1 + length items) edge
 
 -- What is handed in is accepted, and the lists are long enough: four of at least n + 2 + E + M numbers and one of at least n + 1.
 pub record Buildable (f : Figures) (np ns n : ℕ) (items colours ends : List ℕ) (heads : List ℤ) (up down tints marks : List ℕ) : Type 0 where

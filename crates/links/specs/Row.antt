@@ -13,16 +13,16 @@ span a b = from a (b - a)
 abbrev pub full : List ℤ → ℕ → Bool
 full heads y = ltb 0 (item_of (head heads y))
 
--- A walk round the option with nodes a .. b - 1 from the node after p on stands at nn: the full nodes that it has passed, in order.
+-- A walk round the option with nodes a .. b - 1 from the node after r on stands at q: the full nodes that it has passed, in order.
 abbrev pub passed : List ℤ → ℕ → ℕ → ℕ → ℕ → List ℕ
-passed heads a b p nn = cond (ltb p nn) (keep (full heads) (span (p + 1) nn)) (keep (full heads) (span (p + 1) b) ++ keep (full heads) (span a nn))
+passed heads a b r q = cond (ltb r q) (keep (full heads) (span (r + 1) q)) (keep (full heads) (span (r + 1) b) ++ keep (full heads) (span a q))
 
--- the same in a ground, round p's own option; and all the others, when the walk is at p again
+-- the same in a ground, round r's own option; and all the others, when the walk is at r again
 abbrev pub walked : Ground → ℕ → ℕ → List ℕ
-walked g p nn = passed g.heads (lo g.plan p) (hi g.plan p) p nn
+walked g r q = passed g.heads (lo g.plan r) (hi g.plan r) r q
 
 unfoldable pub others : Ground → ℕ → List ℕ
-others g p = walked g p p
+others g r = walked g r r
 
 -- r is the first live entry of its option: no full node stands before it
 abbrev pub first_live : Ground → ℕ → Bool

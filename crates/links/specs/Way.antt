@@ -2,14 +2,14 @@
 use Rattle.std.specs.Prelude.{ℕ, ◌+◌, ◌-◌, cond, ltb}
 use Rattle.links.specs.Plan.{Plan, start}
 
--- forwards from the node after p round to p: n is above every node
+-- forwards from the node after r round to r: n is above every node
 abbrev pub way : ℕ → ℕ → ℕ → ℕ
-way n p nn = cond (ltb p nn) (n + n - nn) (p - nn)
+way n r q = cond (ltb r q) (n + n - q) (r - q)
 
--- backwards from the node before p round to p
+-- backwards from the node before r round to r
 abbrev pub way_back : ℕ → ℕ → ℕ → ℕ
-way_back n p q = cond (ltb q p) (n + q) (q - p)
+way_back n r q = cond (ltb q r) (n + q) (q - r)
 
--- down a column: at p; when it is at the header again, over all nodes
+-- down a column: at x; when it is at the header again, over all nodes
 abbrev pub reach : Plan → ℕ → ℕ
-reach P p = cond (ltb p (start P)) P.N p
+reach P x = cond (ltb x (start P)) P.N x
