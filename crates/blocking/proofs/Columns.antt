@@ -1,21 +1,13 @@
 -- Who is a rival in a column. Assumes nothing.
-use Prim.Native.Nat.{ℕ, ◌+◌, ◌<◌, ◌≤◌}
-use native.Mathlib.Omega.{arith}
-use mathlib.Core.Path.{◌≡◌, ◌∙◌, ap, sym}
-use mathlib.Core.Bool.{true, false, not, false≢true, and-eq-true_iff}
-use mathlib.Core.List.{List, []}
+use Prim.Native.Nat.{ℕ, ◌≤◌}
+use mathlib.Core.Path.{◌≡◌}
+use mathlib.Core.Bool.{true, false, not, and-eq-true_iff}
 use borrow.Author.Tests.{not-true}
 use Rattle.rules.specs.Blocked.{agree}
-use Rattle.links.specs.Column.{at, Tied}
-use Rattle.links.specs.Plan.{start, EntryOf, Header}
-use Rattle.links.specs.Ground.{Ground, Tidy, taken, after}
-use Rattle.links.specs.Taking.{gather_to, in_column, rival_at}
-use Rattle.links.proofs.Stores.{not_so}
-use Rattle.links.proofs.Plans.{header-before, entry-from, entry-not-col}
-use Rattle.links.proofs.Rings.{above_before, above-col}
-use Rattle.links.proofs.Taken.{taken-on, on-taken}
-use Rattle.links.proofs.Gathering.{gather-same, gather-column}
-use Rattle.links.proofs.Descending.{column→, column←, before-gap, on-entry, reach, reach-past, reach-at, Stand, stand-next, step-gap, step-far}
+use Rattle.links.specs.Plan.{start}
+use Rattle.links.specs.Ground.{Ground}
+use Rattle.links.specs.Taking.{in_column, rival_at}
+use Rattle.links.proofs.Descending.{column→, column←}
 
 -- What it is to be a rival.
 module _ (g : Ground) (i x k : ℕ) where

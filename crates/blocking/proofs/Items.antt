@@ -1,7 +1,7 @@
 -- The walk forwards over the items of the tested option. Assumes nothing.
 use Prim.Native.Nat.{ℕ, ◌+◌, ◌<◌}
 use native.Mathlib.Omega.{arith}
-use mathlib.Core.Path.{◌≡◌, refl, ◌∙◌, ap, sym, subst}
+use mathlib.Core.Path.{◌≡◌, ◌∙◌, ap, sym, subst}
 use mathlib.Core.Logic.{◌≢◌}
 use mathlib.Core.Bool.{Bool, true}
 use mathlib.Core.List.{List, []}

@@ -1,7 +1,7 @@
 -- The masks of what is laid out: one node more below x + 1 where x is an entry, none where it is not. Assumes nothing.
 use Rattle.std.proofs.Common.{◌≡◌, ℕ, ◌+◌, ◌<◌, ◌≤◌, Bool, true, false, ◌&&◌, T, ltb, leb, ◌≢◌, ◌⊎◌, sym, refl, ap, ◌∙◌, inl, inr, ⊎_elim, arith, le→leb, ltb→lt, lt→ltb, leb→le}
 use mathlib.Core.Path.{fun_ext}
-use Rattle.theorems.proofs.Words.Tests.{T_true, true-T, T_and, and_T, T-or, or_left, or_right, T-same}
+use Rattle.theorems.proofs.Words.Tests.{T_true, true-T, T_and, and_T, T-or, or_left, or_right}
 use Rattle.links.specs.Column.{without}
 use Rattle.links.specs.Plan.{Plan, start, lo, hi, EntryOf, Header, Planned}
 use Rattle.links.proofs.Stores.{same-test}

@@ -9,7 +9,7 @@ use Rattle.links.specs.Column.{at}
 use Rattle.links.specs.Plan.{start, Header}
 use Rattle.links.specs.Ground.{Ground, Tidy}
 use Rattle.links.proofs.Plans.{header-before}
-use Rattle.links.proofs.Descending.{Stand, reach, reach-past, reach-at, left, stand-in, stand-next, step_less}
+use Rattle.links.proofs.Descending.{Stand, reach, reach-at, left, stand-in, stand-next, step_less}
 use Rattle.showing.proofs.HiddenStates.{hiding, hiding-tidy}
 use Rattle.condemning.specs.Search.{Chain, Search, Hiding, Tried, Trying}
 use Rattle.condemning.proofs.Searching.{search-stand, next-same, first-none, stand-column}

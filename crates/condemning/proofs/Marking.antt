@@ -19,7 +19,7 @@ use Rattle.links.specs.Ground.{Ground, Edge, Tidy}
 use Rattle.links.specs.Row.{span, full, first_live}
 use Rattle.links.specs.Taking.{Marked}
 use Rattle.links.proofs.Stores.{same?, less?}
-use Rattle.links.proofs.Plans.{entry-from, entry_row, entry-till, row-mate, row-till}
+use Rattle.links.proofs.Plans.{entry-from, entry_row, row-mate, row-till}
 use Rattle.links.proofs.Spans.{span-In}
 use Rattle.condemning.specs.Marks.{HeldBy, Known, Marking}
 

@@ -20,7 +20,7 @@ use Rattle.links.specs.Taking.{in_column, hides, node_blocked, Tested}
 use Rattle.links.proofs.Stores.{same?}
 use Rattle.links.proofs.Taken.{on-taken, taken-entry-head}
 use Rattle.links.proofs.Rows.{after-first}
-use Rattle.links.proofs.Descending.{Stand, column→, column←, column-entry, on-entry, reach, stand-header, stand-next, step-gap, step-far, header-gap}
+use Rattle.links.proofs.Descending.{Stand, column→, column←, column-entry, reach, stand-header, stand-next, step-gap, step-far, header-gap}
 use Rattle.showing.specs.Showing.{full_before, condemned_at}
 use Rattle.showing.proofs.HiddenStates.{hiding, hiding-is, hides-fresh, hiding-tidy, hiding-own}
 use Rattle.showing.proofs.TestedNode.{tested-hidden}

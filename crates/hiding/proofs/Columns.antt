@@ -8,13 +8,12 @@ use mathlib.Core.Logic.{◌≢◌}
 use mathlib.Core.Bool.{true, false, and-false}
 use mathlib.Core.List.{List, []}
 use borrow.Author.Tests.{eq-eqb, ne_eqb}
-use lib.ListN.{length}
 use Rattle.links.specs.Column.{at}
 use Rattle.links.specs.Plan.{start, EntryOf}
 use Rattle.links.specs.Ground.{Ground}
 use Rattle.links.specs.Taking.{gather_to, in_column, hidden}
 use Rattle.links.proofs.Passing.{hidden-inside, kept-none, gathered-none, down-gathered}
-use Rattle.links.proofs.Descending.{Stand, column←, on-entry, reach, stand-header, stand-in, step-gap, step-far, header-gap}
+use Rattle.links.proofs.Descending.{Stand, column←, on-entry, reach, stand-header, stand-in}
 use Rattle.hiding.specs.Hiding.{Column}
 
 module _ {g : Ground} {tints : List ℕ} {c from : ℕ} (w : Column g tints c from) where

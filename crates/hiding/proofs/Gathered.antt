@@ -1,16 +1,15 @@
 -- What hiding an item takes out: the other entries of the options that hold it uncoloured, all of them in their columns, none of the item's own.
 -- Assumes nothing.
-use Prim.Native.Nat.{ℕ, ◌≤◌}
-use mathlib.Core.Path.{◌≡◌, sym}
+use Prim.Native.Nat.{ℕ}
+use mathlib.Core.Path.{◌≡◌}
 use mathlib.Core.Logic.{◌≢◌}
-use mathlib.Core.Bool.{true, and-eq-true_iff}
+use mathlib.Core.Bool.{true}
 use mathlib.Core.List.{Memᴰ as In}
-use lib.Dec.{eqb}
-use Rattle.links.specs.Plan.{start, EntryOf}
+use Rattle.links.specs.Plan.{EntryOf}
 use Rattle.links.specs.Ground.{Ground, Tidy, Within, Fresh}
 use Rattle.links.specs.Row.{others}
 use Rattle.links.specs.Shown.{Ready}
-use Rattle.links.specs.Taking.{gather_to, in_column, hidden}
+use Rattle.links.specs.Taking.{gather_to, hidden}
 use Rattle.links.proofs.Gathering.{gather-column}
 use Rattle.links.proofs.Passing.{hidden-inside, chosen-entry, chosen-within, chosen-fresh}
 use Rattle.hiding.specs.Away.{Rising}

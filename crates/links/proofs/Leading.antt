@@ -1,15 +1,15 @@
 -- The walk back from an entry over shortened ones, a lemma for each of its steps. Assumes nothing.
-use Prim.Native.Nat.{ℕ, suc, ◌+◌, ◌-◌, ◌<◌, ◌≤◌}
+use Prim.Native.Nat.{ℕ, ◌+◌, ◌-◌, ◌<◌, ◌≤◌}
 use native.Mathlib.Omega.{arith}
 use mathlib.Core.Path.{◌≡◌, ◌∙◌, ap, sym}
 use mathlib.Core.Logic.{◌⊎◌, inl, inr, ⊎_elim, ◌≢◌}
 use mathlib.Core.Bool.{true, false, not, false≢true, true≢false}
-use mathlib.Core.List.{List, ◌∷◌}
+use mathlib.Core.List.{List}
 use borrow.Author.Tests.{eq-eqb, ne_eqb, lt-ltb, le-ltb}
 use lib.Dec.{T, eqb, ltb}
 use lib.ListN.{length}
 use lib.IntN.{ℤ, pos, negsuc}
-use Rattle.rules.specs.Lists.{any, from}
+use Rattle.rules.specs.Lists.{any}
 use Rattle.theorems.proofs.Words.Tests.{T_true}
 use Rattle.theorems.proofs.Words.Lists.{any←}
 use Rattle.links.specs.Head.{item_of, zero_head, head}

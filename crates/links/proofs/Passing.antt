@@ -3,7 +3,7 @@
 use Prim.Native.Nat.{ℕ, ◌+◌, ◌<◌, ◌≤◌}
 use native.Mathlib.Omega.{arith}
 use mathlib.Core.Path.{◌≡◌, refl, ◌∙◌, ap, sym}
-use mathlib.Core.Bool.{Bool, true, false, not, false≢true, and-eq-true_iff}
+use mathlib.Core.Bool.{Bool, true, not, false≢true, and-eq-true_iff}
 use mathlib.Core.List.{List, [], Memᴰ as In}
 use lib.Dec.{eqb}
 use Rattle.rules.specs.Blocked.{agree}

@@ -1,10 +1,7 @@
 -- Deleting an option's other entries one after another: each step of the walk, until it is round. Assumes nothing.
-use Prim.Native.Nat.{ℕ, ◌+◌, ◌<◌, ◌≤◌}
-use native.Mathlib.Omega.{arith}
-use mathlib.Core.Path.{◌≡◌, refl, ◌∙◌, ap, sym, subst}
-use Rattle.rules.specs.Bounds.{node_bound}
-use mathlib.Core.Logic.{⊎_elim, ◌≢◌}
-use mathlib.Core.Bool.{Bool, true, false}
+use Prim.Native.Nat.{ℕ, ◌+◌, ◌<◌}
+use mathlib.Core.Path.{◌≡◌, ◌∙◌, ap, sym, subst}
+use mathlib.Core.Logic.{◌≢◌}
 use mathlib.Core.List.{List, [], ◌∷◌, ◌++◌}
 use lib.ListN.{length}
 use lib.IntN.{ℤ}
@@ -15,9 +12,8 @@ use Rattle.links.specs.Ground.{Ground, Tidy, Within, taken, Fresh, Holds}
 use Rattle.links.specs.Row.{walked, others}
 use Rattle.links.specs.Way.{way}
 use Rattle.links.specs.Taking.{first_out}
-use Rattle.links.proofs.Plans.{entry-till}
 use Rattle.links.proofs.Taken.{taken-append, taken-after, taken-tidy, taken-lengths, fresh-of, fresh-front}
-use Rattle.links.proofs.Rows.{At, place_in, walk_begins, walked_none}
+use Rattle.links.proofs.Rows.{At, walk_begins, walked_none}
 use Rattle.links.proofs.Onward as Onward
 use Rattle.links.proofs.Onward.{Underway, passing-within}
 use Rattle.links.proofs.Gathering.{others-distinct}

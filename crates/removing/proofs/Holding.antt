@@ -1,8 +1,6 @@
 -- HoldingAt round an option for a column: each step of the walk, and that what it tells is whether the option holds the item. Assumes nothing.
 use Prim.Native.Nat.{ℕ, ◌+◌, ◌<◌, ◌≤◌}
-use native.Mathlib.Omega.{arith}
 use mathlib.Core.Path.{◌≡◌, ◌∙◌, ap, sym, subst}
-use Rattle.rules.specs.Bounds.{node_bound}
 use mathlib.Core.Logic.{◌≢◌}
 use mathlib.Core.Bool.{Bool, true, false, ◌||◌}
 use mathlib.Core.List.{List, [], ◌∷◌}
@@ -21,8 +19,7 @@ use Rattle.links.specs.Row.{walked, others}
 use Rattle.links.specs.Way.{way}
 use Rattle.links.specs.Shown.{Ready}
 use Rattle.links.specs.Taking.{holds_column}
-use Rattle.links.proofs.Plans.{entry-till}
-use Rattle.links.proofs.Rows.{At, place_in, walk_begins, walked_none, full-item, full_at, full-walked, full-way, over-at, over-walked, over-way, In-others, others-In}
+use Rattle.links.proofs.Rows.{At, full-item, full_at, full-walked, over-at, over-walked, over-way, In-others, others-In}
 use Rattle.removing.specs.Removing.{Walking, holds_other}
 use Rattle.links.proofs.Ahead.{ahead, walked-ahead}
 use Rattle.removing.proofs.Leaving.{holds→, holds←}

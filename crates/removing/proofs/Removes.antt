@@ -3,7 +3,6 @@
 use Prim.Native.Nat.{ℕ, ◌+◌, ◌<◌, ◌≤◌}
 use native.Mathlib.Omega.{arith}
 use mathlib.Core.Path.{◌≡◌, refl, ◌∙◌, ap, sym, subst}
-use Rattle.rules.specs.Bounds.{node_bound}
 use mathlib.Core.Logic.{inl, inr, ⊎_elim, ◌≢◌}
 use mathlib.Core.Bool.{Bool, true, false, not, ◌||◌, false≢true}
 use mathlib.Core.List.{List}

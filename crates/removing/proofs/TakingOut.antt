@@ -11,11 +11,11 @@ use lib.Dec.{leb, eqb}
 use lib.ListN.{length, set}
 use lib.IntN.{ℤ, pos}
 use Rattle.links.specs.Head.{item_of, below_zero, head}
-use Rattle.links.specs.Column.{at, cut_up, cut_down}
+use Rattle.links.specs.Column.{cut_up, cut_down}
 use Rattle.links.specs.Ground.{Ground, Tidy, Within, cut_one, Holds}
 use Rattle.links.specs.Taking.{first_out}
 use Rattle.links.proofs.Grounds.{node_in}
-use Rattle.links.proofs.Undoing.{take_out, fewer-asks, unlink-asks}
+use Rattle.links.proofs.Undoing.{take_out, fewer-asks}
 use Rattle.removing.specs.Deleting.{Sitting, Deleted}
 
 module _ {g : Ground} {x : ℕ} {heads : List ℤ} {up down : List ℕ} (s : Sitting g x heads up down) where

@@ -1,10 +1,10 @@
 -- Writing the front of a list, one element after another. Assumes nothing.
-use Prim.Native.Nat.{ℕ, suc, ◌+◌, ◌-◌, ◌<◌, ◌≤◌}
+use Prim.Native.Nat.{ℕ, ◌+◌, ◌-◌, ◌<◌, ◌≤◌}
 use native.Mathlib.Omega.{arith}
 use mathlib.Core.Path.{◌≡◌, refl, ◌∙◌, ap, sym, subst}
-use mathlib.Core.List.{List, [], ◌∷◌, ◌++◌, map, map-append, append_assoc, append-nil}
-use lib.ListN.{length, get_or, take, drop, set, length-append, length-drop, length-map}
-use lib.Seq.{take-suc, length-take-le, take-append_seam, drop-drop, drop-length}
+use mathlib.Core.List.{List, [], ◌∷◌, ◌++◌, append_assoc, append-nil}
+use lib.ListN.{length, take, drop, set, length-append, length-drop}
+use lib.Seq.{take-append_seam, drop-drop, drop-length}
 use Rattle.std.proofs.lemmas.List.{drop_at, take_rest}
 use Rattle.rules.specs.Lists.{written}
 use Rattle.theorems.proofs.Words.Written.{written-length, written_behind}

@@ -1,5 +1,5 @@
 -- What is asked where the result is read off the nodes: the kept items; one option, one column, all columns. Assumes nothing.
-use Rattle.std.specs.Prelude.{ℕ, ◌+◌, ◌≤◌, ◌≡◌, List, [], ◌∷◌, ◌++◌, length, ℤ}
+use Rattle.std.specs.Prelude.{ℕ, ◌≤◌, ◌≡◌, List, [], ◌∷◌, ◌++◌, length, ℤ}
 use Rattle.rules.specs.Lists.{written}
 use Rattle.rules.specs.Rooms.{Results}
 use Rattle.rules.specs.Result.{Numbered}

@@ -1,6 +1,6 @@
 -- Going round an option: the others of a node, in the order of a walk from the node after it, are the entries that the rules go round, and from
 -- the first node that is in its column they are those from the second to the first. Assumes nothing.
-use Prim.Native.Nat.{ℕ, suc, ◌+◌, ◌-◌, ◌<◌, ◌≤◌}
+use Prim.Native.Nat.{ℕ, ◌+◌, ◌<◌, ◌≤◌}
 use native.Mathlib.Omega.{arith}
 use mathlib.Core.Path.{◌≡◌, refl, ◌∙◌, ap, sym}
 use mathlib.Core.Logic.{⊎_elim, ◌≢◌}
@@ -11,13 +11,13 @@ use mathlib.Core.List.{List, [], ◌∷◌, ◌++◌, map, map-map, map-append, 
 use borrow.Author.Tests.{le-ltb}
 use lib.Dec.{T}
 use lib.IntN.{pos}
-use Rattle.rules.specs.Lists.{keep, from}
+use Rattle.rules.specs.Lists.{keep}
 use Rattle.rules.specs.Problem.{Entry}
 use Rattle.rules.specs.State.{option_at, entries_after, entries_before, items_of, around}
 use Rattle.rules.specs.Blocked.{second_to_first}
 use Rattle.theorems.proofs.Words.Tests.{T_true, true-T, false-T, T-same}
 use borrow.Author.Tests.{eq-eqb, ne_eqb}
-use Rattle.theorems.proofs.Words.Lists.{keep→, keep_append, keep-cong, keep-none, none_any, In-map, from-split}
+use Rattle.theorems.proofs.Words.Lists.{keep→, keep_append, keep-cong, keep-none, none_any, In-map}
 use Rattle.links.specs.Head.{item_of, head}
 use Rattle.links.specs.Plan.{lo, hi, EntryOf, Planned}
 use Rattle.links.specs.Ground.{Ground, Short}

@@ -2,11 +2,11 @@
 use Prim.Native.Nat.{ℕ, ◌+◌, ◌<◌}
 use mathlib.Core.Path.{◌≡◌}
 use mathlib.Core.Bool.{true, ◌&&◌}
-use lib.Dec.{T, eqb, leb, eqb→eq, leb→le, le→leb}
+use lib.Dec.{T, eqb, eqb→eq}
 use Rattle.rules.specs.State.{option_at, holds}
 use Rattle.theorems.proofs.Words.Tests.{T_true, true-T, T_and, and_T, T-same, eq→eqb}
 use Rattle.theorems.proofs.Words.Lists.{any→, any←}
-use Rattle.links.specs.Plan.{start, EntryOf}
+use Rattle.links.specs.Plan.{EntryOf}
 use Rattle.links.specs.Ground.{Ground, Tidy}
 use Rattle.links.specs.Taking.{in_column, holds_column}
 use Rattle.links.proofs.Plans.{entry-from}

@@ -12,7 +12,7 @@ use Rattle.rules.specs.Problem.{Entry}
 use Rattle.rules.specs.State.{option_at, holds, holds_uncoloured, around}
 use Rattle.rules.specs.Redundant.{leaving_with}
 use Rattle.theorems.proofs.Words.Tests.{T-dec, T_true, T_false, true-T, T_and, and_T, T-same, eq→eqb}
-use Rattle.theorems.proofs.Words.Lists.{each-cong, In-up_to, each_append, from-split}
+use Rattle.theorems.proofs.Words.Lists.{each-cong, In-up_to, each_append}
 use Rattle.theorems.proofs.Steps.States.{uncoloured-holds}
 use Rattle.theorems.proofs.Laws.Hiding.{leaving_hidden}
 use Rattle.links.specs.Plan.{EntryOf, Planned}

@@ -9,7 +9,7 @@ use lib.Dec.{T, eqb, eqb→eq, T_not, not_T}
 use Rattle.rules.specs.State.{option_at, holds_uncoloured}
 use Rattle.theorems.proofs.Words.Tests.{T_true, true-T, T_and, and_T, eq→eqb}
 use Rattle.links.specs.Plan.{EntryOf, Planned}
-use Rattle.links.specs.Ground.{Ground, Tidy, Within, taken, after, Fresh}
+use Rattle.links.specs.Ground.{Ground, Tidy, taken, after, Fresh}
 use Rattle.links.specs.Row.{full, others}
 use Rattle.links.specs.Shown.{Ready}
 use Rattle.links.specs.Taking.{in_column, hidden, hides}

@@ -21,12 +21,12 @@ use borrow.Author.Tests.{ne_eqb}
 use Rattle.theorems.proofs.Words.Lists.{any←, any_none, keep→, keep←, map-In, In-map, up_to-In, reverse-In, In-reverse}
 use Rattle.theorems.proofs.Steps.Redundancy.{Fate, stays, loses, leaves, fate, shortened_same, shortened-short, shortened-deleted}
 use Rattle.theorems.proofs.Steps.Blocking.{spare-same, spare-gone}
-use Rattle.links.specs.Plan.{Plan, start, EntryOf, Planned}
+use Rattle.links.specs.Plan.{start, EntryOf, Planned}
 use Rattle.links.specs.Ground.{Ground, taken}
 use Rattle.links.specs.Shown.{shown_row, shown, Ready}
 use Rattle.links.specs.Taking.{holds_column, mask_without}
 use Rattle.links.proofs.Plans.{entry-from}
-use Rattle.links.proofs.Taken.{taken-plan, off-taken, taken-off, taken-on}
+use Rattle.links.proofs.Taken.{off-taken, taken-off, taken-on}
 use Rattle.showing.specs.Showing.{state_of, deletes, Condemns}
 use Rattle.showing.proofs.Shows.{shown-at, node-holds, option-In, In-option}
 use Rattle.showing.proofs.Masks.{row_same, row-emptied, row-without, shown-each}
