@@ -28,7 +28,7 @@ use Rattle.links.proofs.Taken.{fresh-within, after-tidy, after_more, fresh-after
 use Rattle.links.proofs.Undoing.{fresh-one-more, take_out, fewer-asks, unlink-asks}
 use Rattle.links.proofs.Onward as Onward
 use Rattle.links.proofs.Onward.{Underway, passing-within}
-use Rattle.blocking.proofs.Columns.{rival→}
+use Rattle.blocking.proofs.RivalTest.{rival→}
 use Rattle.blocking.proofs.Rivals.{Passed}
 use Rattle.blocking.proofs.Stages.{ground-tidy, rivals-fresh, rival-row}
 

@@ -1,4 +1,4 @@
-pub mod Columns
+pub mod RivalTest
 pub mod Testing
 pub mod Stages
 pub mod Items

@@ -12,7 +12,7 @@ use Rattle.links.specs.Taking.{gather_to, rival_at}
 use Rattle.blocking.specs.Undo.{Half, Below, Behind}
 use Rattle.blocking.specs.Forward.{Test, out_at, ground_at, rivals_to, ground_to, Inner, Stopped}
 use Rattle.links.proofs.Taken.{holds-taken}
-use Rattle.blocking.proofs.Columns.{rival→}
+use Rattle.blocking.proofs.RivalTest.{rival→}
 use Rattle.blocking.proofs.Upwards.{Above, link-in, step-up}
 use Rattle.blocking.proofs.Stages.{item-entry, ground-tidy, rivals-fresh}
 use Rattle.blocking.proofs.Entries.{to-tidy, row}

@@ -23,7 +23,7 @@ use Rattle.links.proofs.Descending.{Stand, on-entry, reach, reach-past, reach-at
 use Rattle.blocking.specs.Forward.{Stage, Alive, out_at, ground_at, Outer, AtItem, rivals_to, ground_to, Middle, Inner}
 use Rattle.links.proofs.Taken.{after-tidy, after_more}
 use Rattle.links.proofs.Passing.{rival-inside, KeptColumn, chosen-kept, down-stand, down-gathered}
-use Rattle.blocking.proofs.Columns.{rival→, rival←}
+use Rattle.blocking.proofs.RivalTest.{rival→, rival←}
 use Rattle.blocking.proofs.Testing.{testing-more}
 use Rattle.blocking.proofs.Stages.{stage-more, item-entry, ground-tidy, rivals-fresh}
 

@@ -25,7 +25,7 @@ use Rattle.links.proofs.Taken.{on-taken, after-tidy, after-within, after-fresh, 
 use Rattle.links.proofs.Gathering.{In-gather, gather-In, gather-fresh}
 use Rattle.blocking.specs.Forward.{Clash, Out, Stage, out_at, ground_at, AtItem, rivals_to}
 use Rattle.links.proofs.Passing.{rival-inside, chosen-entry}
-use Rattle.blocking.proofs.Columns.{rival→, rival←}
+use Rattle.blocking.proofs.RivalTest.{rival→, rival←}
 
 -- before the first item none is out
 pub stage-none : (h : Ground) → Stage h [] []

@@ -22,7 +22,7 @@ use Rattle.links.proofs.Gathering.{gather-one, gather_none}
 use Rattle.links.proofs.Descending.{Stand, on-entry}
 use Rattle.blocking.specs.Undo.{Half, rivals_up_to, Below}
 use Rattle.links.proofs.Passing.{rival-inside, KeptColumn, chosen-kept, gathered-none, up-stand, up-falls, up-gathered, last-gathered}
-use Rattle.blocking.proofs.Columns.{rival→, rival←}
+use Rattle.blocking.proofs.RivalTest.{rival→, rival←}
 
 -- A walk up a column has put p's option back, and not gone on yet: the rivals above p are out still.
 pub record Above (g : Ground) (tints : List ℕ) (p x s : ℕ) (heads : List ℤ) (up down : List ℕ) : Type 0 where

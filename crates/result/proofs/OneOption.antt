@@ -144,7 +144,7 @@ module _ {g : Ground} {old lists : FourLists} {xs : List Numbered} {heads : List
             (omega (arith, more, d.room.colours, b.items-in.at-is, b.colours-in.at-is)) in
             omega (arith, more, d.room.colours, b.items-in.at-is, l)
 
-        pub reading-column : (0 < k) × (k < node_bound)
+        pub reading-column : (0 < k) × (k + 1 < node_bound)
         reading-column = (
           omega (arith, item-is, i),
           omega (arith, column, header-before g.plan W (g.plan.col q) (W.entry q node), W.room, W.small),

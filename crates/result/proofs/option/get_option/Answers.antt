@@ -13,7 +13,10 @@ pub column-column-requires : goal.column-column-requires
 column-column-requires c = let p = c.requires in reading-heads p.3 (c.loop-k.invariant.4 p.0 p.1 p.2 p.3)
 
 pub item_of_column-requires : goal.item_of_column-requires
-item_of_column-requires c = let p = c.requires in reading-column p.3 (c.loop-k.invariant.4 p.0 p.1 p.2 p.3) (cc) c.in-Some-column.c (cc)
+item_of_column-requires c =
+    let p = c.requires in
+    let b = reading-column p.3 (c.loop-k.invariant.4 p.0 p.1 p.2 p.3) (cc) c.in-Some-column.c (cc) in
+    (omega (arith, b), omega (arith, b))
 
 pub bounds-tints-q : goal.bounds-tints-q
 bounds-tints-q c = let p = c.requires in reading-tints p.3 (c.loop-k.invariant.4 p.0 p.1 p.2 p.3)

@@ -1,4 +1,4 @@
--- Who is a rival in a column. Assumes nothing.
+-- The test of who is a rival in a column: what it says where it holds, and what makes it hold. Assumes nothing.
 use Prim.Native.Nat.{ℕ, ◌≤◌}
 use mathlib.Core.Path.{◌≡◌}
 use mathlib.Core.Bool.{true, false, not, and-eq-true_iff}
