@@ -10,6 +10,7 @@ use lib.ListN.{length, set}
 use lib.IntN.{ℤ, pos}
 use Rattle.std.specs.Prelude.{None, Some}
 use Rattle.rules.specs.Bounds.{node_bound}
+use Rattle.links.specs.declared.shape.Shape.{Shape}
 use Rattle.links.specs.Head.{item_of, head}
 use Rattle.links.specs.Column.{at, cut_up, cut_down}
 use Rattle.links.specs.Plan.{hi, EntryOf}
@@ -49,7 +50,7 @@ alive-less h marks r np heads i a k n j hd le not_own some = ⊎_elim own other 
     other : (j ≢ i) × (head (set heads i (pos (item_of (head heads i) - 1))) j ≡ head heads j) → 0 < item_of (head (set heads i (pos (item_of (head heads i) - 1))) j)
     other w = rw w.1 (a j hd le not_own some)
 
-module _ {h : Ground} {tints marks : List ℕ} {r s np : ℕ} {heads : List ℤ} {up down : List ℕ} {q p qq : ℕ} (m : Inner h tints marks r s np q p qq heads up down) where
+module _ {h : Ground} {tints marks : List ℕ} {r : ℕ} {shape : Shape} {heads : List ℤ} {up down : List ℕ} {q p qq : ℕ} (m : Inner h tints marks r shape q p qq heads up down) where
   g-tidy : Tidy (ground_at h r q)
   g-tidy = ground-tidy m.item
 
@@ -81,7 +82,7 @@ module _ {h : Ground} {tints marks : List ℕ} {r s np : ℕ} {heads : List ℤ}
   inner-in = Onward.inside stands
 
   -- the walk came round: p's others are out
-  pub inner-done : qq ≡ p → Passed h tints marks r s np q p heads up down
+  pub inner-done : qq ≡ p → Passed h tints marks r shape q p heads up down
   unfolding others
   inner-done e =
       let rival = rival→ (ground_at h r q) (h.plan.col q) (h.plan.tint q) p m.rival in
@@ -109,7 +110,7 @@ module _ {h : Ground} {tints marks : List ℕ} {r s np : ℕ} {heads : List ℤ}
       same-walked : walked (ground_to h r q p) p qq ≡ walked (ground_to h r q p) p (at up qq)
       same-walked = sym (Onward.over-walked stands d no_item)
 
-      pub inner-over : Inner h tints marks r s np q p (at up qq) heads up down
+      pub inner-over : Inner h tints marks r shape q p (at up qq) heads up down
       inner-over = record {
         item = m.item;
         rival = m.rival;
@@ -164,8 +165,8 @@ module _ {h : Ground} {tints marks : List ℕ} {r s np : ℕ} {heads : List ℤ}
       inner-unlink = unlink-asks (ground_to h r q p) (walked (ground_to h r q p) p qq) qq to-tidy m.fresh (inner-within an_item) m.holds
 
       -- it is taken out
-      pub inner-take : stops_at heads marks i r np ≡ false
-          → Inner h tints marks r s np q p (qq + 1) (set heads i (pos (item_of (head heads i) - 1))) (cut_up up down qq) (cut_down up down qq)
+      pub inner-take : stops_at heads marks i r shape.np ≡ false
+          → Inner h tints marks r shape q p (qq + 1) (set heads i (pos (item_of (head heads i) - 1))) (cut_up up down qq) (cut_down up down qq)
       inner-take n = record {
         item = m.item;
         rival = m.rival;
@@ -173,7 +174,7 @@ module _ {h : Ground} {tints marks : List ℕ} {r s np : ℕ} {heads : List ℤ}
         till = omega (arith, inside an_item);
         fresh = subst (λ (xs : List ℕ). Fresh (ground_to h r q p) xs) (sym (walked_more an_item))
             (fresh-one-more (ground_to h r q p) (walked (ground_to h r q p) p qq) qq to-tidy m.fresh (inner-within an_item));
-        alive = alive-less h marks r np heads i m.alive inner-fewer.0 n;
+        alive = alive-less h marks r shape.np heads i m.alive inner-fewer.0 n;
         holds = rw item-is
             (subst (λ (xs : List ℕ).
             Holds (taken (ground_to h r q p) xs) (set heads (h.plan.col qq) (pos (item_of (head heads (h.plan.col qq)) - 1))) (cut_up up down qq) (cut_down up down qq))
@@ -182,5 +183,5 @@ module _ {h : Ground} {tints marks : List ℕ} {r s np : ℕ} {heads : List ℤ}
       }
 
       -- or the walk stops before it
-      pub inner-stops : stops_at heads marks i r np ≡ true → Stopped h tints marks r s np q p qq heads up down
+      pub inner-stops : stops_at heads marks i r shape.np ≡ true → Stopped h tints marks r shape q p qq heads up down
       inner-stops n = record { inner = m; other = d; full = an_item; stops = rw (item_some (head heads qq) i some).0 n }

@@ -11,6 +11,7 @@ use Rattle.rules.specs.Lists.{any}
 use Rattle.rules.specs.Blocked.{agree}
 use Rattle.theorems.proofs.Words.Tests.{T_true, T_false, T_and}
 use Rattle.theorems.proofs.Words.Lists.{any→, any←}
+use Rattle.links.specs.declared.shape.Shape.{Shape}
 use Rattle.links.specs.Plan.{lo, hi, EntryOf}
 use Rattle.links.specs.Ground.{Ground, Tidy, taken}
 use Rattle.links.specs.Row.{span, walked, others}
@@ -85,7 +86,7 @@ module _ (h : Ground) (r : ℕ) (w : Tested h r) where
       }
 
 -- What is out at each place is of such options.
-module _ {h : Ground} {tints marks : List ℕ} {r s np q : ℕ} (m : AtItem h tints marks r s np q) where
+module _ {h : Ground} {tints marks : List ℕ} {r : ℕ} {shape : Shape} {q : ℕ} (m : AtItem h tints marks r shape q) where
   pub hit-out : {y : ℕ} → In y (out_at h r q) → Hit h r y
   hit-out {y} i =
       let o = m.stage.out y i in

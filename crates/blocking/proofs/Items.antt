@@ -8,6 +8,7 @@ use mathlib.Core.List.{List, []}
 use lib.ListN.{length}
 use lib.IntN.{ℤ}
 use Rattle.std.specs.Prelude.{None, Some}
+use Rattle.links.specs.declared.shape.Shape.{Shape}
 use Rattle.links.specs.Head.{item_of, head}
 use Rattle.links.specs.Column.{at}
 use Rattle.links.specs.Plan.{EntryOf, Header}
@@ -28,9 +29,9 @@ use Rattle.links.proofs.Onward.{Underway}
 use Rattle.blocking.proofs.Stages.{stage-none, item-entry, ground-tidy}
 
 -- the place of the walk, and what is known there
-module _ {h : Ground} {tints marks : List ℕ} {r s np : ℕ} {heads : List ℤ} {up down : List ℕ} where
+module _ {h : Ground} {tints marks : List ℕ} {r : ℕ} {shape : Shape} {heads : List ℤ} {up down : List ℕ} where
   -- the walk begins at the node after r
-  pub outer-begins : Test h tints marks r s np → Holds h heads up down → Outer h tints marks r s np (r + 1) heads up down
+  pub outer-begins : Test h tints marks r shape → Holds h heads up down → Outer h tints marks r shape (r + 1) heads up down
   outer-begins w l =
       let b = walk_begins h w.tested.tidy r w.tested.entry in
       let n = walked_none h w.tested.tidy r w.tested.entry in
@@ -43,7 +44,7 @@ module _ {h : Ground} {tints marks : List ℕ} {r s np : ℕ} {heads : List ℤ}
         holds = subst (λ (qs : List ℕ). Holds (taken h (testing h qs)) heads up down) (sym n) l;
       }
 
-  module _ {q : ℕ} (m : Outer h tints marks r s np q heads up down) where
+  module _ {q : ℕ} (m : Outer h tints marks r shape q heads up down) where
     t : Tidy h
     t = m.test.tested.tidy
 
@@ -65,7 +66,7 @@ module _ {h : Ground} {tints marks : List ℕ} {r s np : ℕ} {heads : List ℤ}
         same-walked : walked h r q ≡ walked h r (at up q)
         same-walked = sym (Onward.over-walked stands d no_item)
 
-        pub outer-over : Outer h tints marks r s np (at up q) heads up down
+        pub outer-over : Outer h tints marks r shape (at up q) heads up down
         outer-over = record {
           test = m.test;
           from = on-at.from;
@@ -83,7 +84,7 @@ module _ {h : Ground} {tints marks : List ℕ} {r s np : ℕ} {heads : List ℤ}
         an_item : item_of (head heads q) ≢ 0
         an_item e = omega (arith, e, (item_some (head heads q) i some).1)
 
-        pub outer-item : AtItem h tints marks r s np q
+        pub outer-item : AtItem h tints marks r shape q
         outer-item = record {
           test = m.test;
           from = m.from;
@@ -120,7 +121,7 @@ module _ {h : Ground} {tints marks : List ℕ} {r s np : ℕ} {heads : List ℤ}
         stand : Stand (ground_at h r q) (h.plan.col q) (h.plan.col q)
         stand = record { on = header-on; col = col-is }
 
-        pub enter : {p : ℕ} → p ≡ at down i → Middle h tints marks r s np q p heads up down
+        pub enter : {p : ℕ} → p ≡ at down i → Middle h tints marks r shape q p heads up down
         enter {p} a =
             let b : p ≡ at (taken (ground_at h r q) []).down (h.plan.col q) = a ∙ ap (at down) item-is ∙ ap (λ (v : List ℕ). at v (h.plan.col q)) m.holds.down-are in
             record {

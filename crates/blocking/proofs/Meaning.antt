@@ -11,6 +11,7 @@ use lib.IntN.{ℤ, pos}
 use Rattle.rules.specs.Lists.{any, all, from}
 use Rattle.theorems.proofs.Words.Tests.{T_true, T_false, true-T, T_and, and_T, T-imp, imp-T, eq→eqb}
 use Rattle.theorems.proofs.Words.Lists.{any→, any←, any_none, none_any, all→, all←, In-from, from-In}
+use Rattle.links.specs.declared.shape.Shape.{Shape}
 use Rattle.links.specs.Head.{item_of, head}
 use Rattle.links.specs.Column.{at, without}
 use Rattle.links.specs.Plan.{Plan, lo, hi, EntryOf, Header, start}
@@ -59,8 +60,8 @@ stops→ heads marks i r np e =
     let b = (and-eq-true_iff (eqb (item_of (head heads i) - 1) 0) (leb i np)).0 a.0 in
     (eqb-true (item_of (head heads i) - 1) 0 b.0, leb-true i np b.1, eqb-false (at marks i) r (not-true (eqb (at marks i) r) a.1))
 
-module _ {h : Ground} {tints marks : List ℕ} {r s np : ℕ} {heads : List ℤ} {up down : List ℕ} {q p qq : ℕ} (m : Stopped h tints marks r s np q p qq heads up down) where
-  I : Inner h tints marks r s np q p qq heads up down
+module _ {h : Ground} {tints marks : List ℕ} {r : ℕ} {shape : Shape} {heads : List ℤ} {up down : List ℕ} {q p qq : ℕ} (m : Stopped h tints marks r shape q p qq heads up down) where
+  I : Inner h tints marks r shape q p qq heads up down
   I = m.inner
 
   w : Tested h r
@@ -85,8 +86,8 @@ module _ {h : Ground} {tints marks : List ℕ} {r s np : ℕ} {heads : List ℤ}
   within : Within last qq
   within = inner-within I m.other m.full
 
-  facts : (item_of (head heads i) - 1 ≡ 0) × (i ≤ np) × (at marks i ≢ r)
-  facts = stops→ heads marks i r np (subst (λ (j : ℕ). stops_at heads marks j r np ≡ true) (inner-col I m.other m.full) m.stops)
+  facts : (item_of (head heads i) - 1 ≡ 0) × (i ≤ shape.np) × (at marks i ≢ r)
+  facts = stops→ heads marks i r shape.np (subst (λ (j : ℕ). stops_at heads marks j r shape.np ≡ true) (inner-col I m.other m.full) m.stops)
 
   length-one : tally h.plan last.on i ≡ 1
   length-one =
@@ -146,12 +147,12 @@ module _ {h : Ground} {tints marks : List ℕ} {r s np : ℕ} {heads : List ℤ}
       (any_none (holds_at h r i) (span (lo h.plan r) (hi h.plan r)) not-held) some-there)
       (all← (λ y. not (in_column h i y) || clashes_at h r y) (nodes_of h) all-clash)
 
-  pub stopped-blocked : node_blocked h r np ≡ true
+  pub stopped-blocked : node_blocked h r shape.np ≡ true
   unfolding node_blocked
-  stopped-blocked = T_true (any (shut_at h r) (from 1 np)) (any← (shut_at h r) (from 1 np) (from-In 1 np (t.planned.entry qq entry).above (omega (arith, facts.1))) shut)
+  stopped-blocked = T_true (any (shut_at h r) (from 1 shape.np)) (any← (shut_at h r) (from 1 shape.np) (from-In 1 shape.np (t.planned.entry qq entry).above (omega (arith, facts.1))) shut)
 
 -- The walk came round.
-module _ {h : Ground} {tints marks : List ℕ} {r s np : ℕ} {heads : List ℤ} {up down : List ℕ} (m : Outer h tints marks r s np r heads up down) where
+module _ {h : Ground} {tints marks : List ℕ} {r : ℕ} {shape : Shape} {heads : List ℤ} {up down : List ℕ} (m : Outer h tints marks r shape r heads up down) where
   tested : Tested h r
   tested = m.test.tested
 
@@ -161,7 +162,7 @@ module _ {h : Ground} {tints marks : List ℕ} {r s np : ℕ} {heads : List ℤ}
   out-tidy : Tidy (ground_at h r r)
   out-tidy = after-tidy h (out_at h r r) tidy m.stage.fresh
 
-  module _ (i : ℕ) (head_of : Header h.plan i) (le : i ≤ np)
+  module _ (i : ℕ) (head_of : Header h.plan i) (le : i ≤ shape.np)
       (free : (z : ℕ) → EntryOf h.plan z → h.plan.number z ≡ h.plan.number r → head h.heads z ≡ pos (h.plan.col z) → h.plan.col z ≢ i) where
     -- an entry of the column whose option clashes is out
     clashing-out : (y : ℕ) → EntryOf h.plan y → h.on y ≡ true → h.plan.col y ≡ i → Hit h r y → In y (out_at h r r)
@@ -184,7 +185,7 @@ module _ {h : Ground} {tints marks : List ℕ} {r s np : ℕ} {heads : List ℤ}
         met f = f y (mate k.at k.clash k.number)
 
   -- so no primary column that r does not hold has clashing options only: one of its entries would be left
-  not-shut : (i : ℕ) → 0 < i → i ≤ np → T (shut_at h r i) → ⊥
+  not-shut : (i : ℕ) → 0 < i → i ≤ shape.np → T (shut_at h r i) → ⊥
   not-shut i a b c = last-left (tally-has h.plan (ground_at h r r).on i left-some)
     where
       parts : T (not (any (holds_at h r i) (span (lo h.plan r) (hi h.plan r))) && any (in_column h i) (nodes_of h)) × T (all (λ y. not (in_column h i y) || clashes_at h r y) (nodes_of h))
@@ -239,6 +240,8 @@ module _ {h : Ground} {tints marks : List ℕ} {r s np : ℕ} {heads : List ℤ}
           (clashes-hit h r tested y n (T-imp (in_column h i y) (clashes_at h r y)
           (all→ (λ y. not (in_column h i y) || clashes_at h r y) (nodes_of h) parts.1 (span-In (start h.plan) h.plan.N u v)) (true-T (column← h i y k.0 e u)))))
 
-  pub round-free : node_blocked h r np ≡ false
+  pub round-free : node_blocked h r shape.np ≡ false
   unfolding node_blocked
-  round-free = T_false (any (shut_at h r) (from 1 np)) (any_none (shut_at h r) (from 1 np) (λ i n. let v = In-from 1 np n in not_T (shut_at h r i) (not-shut i v.0 (omega (arith, v.1)))))
+  round-free =
+      T_false (any (shut_at h r) (from 1 shape.np))
+      (any_none (shut_at h r) (from 1 shape.np) (λ i n. let v = In-from 1 shape.np n in not_T (shut_at h r i) (not-shut i v.0 (omega (arith, v.1)))))

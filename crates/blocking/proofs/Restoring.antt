@@ -5,6 +5,7 @@ use mathlib.Core.Path.{◌≡◌, sym, subst}
 use mathlib.Core.List.{List}
 use lib.ListN.{length}
 use lib.IntN.{ℤ}
+use Rattle.links.specs.declared.shape.Shape.{Shape}
 use Rattle.links.specs.Column.{at}
 use Rattle.links.specs.Plan.{lo, hi, EntryOf}
 use Rattle.links.specs.Ground.{Ground, Tidy, taken, Fresh, Holds}
@@ -18,13 +19,13 @@ use Rattle.blocking.proofs.Stages.{item-entry, ground-tidy, rivals-fresh}
 use Rattle.blocking.proofs.Entries.{to-tidy, row}
 
 -- The walk stopped at node q of r's option, or came round: `backup` from the node before.
-module _ {h : Ground} {tints marks : List ℕ} {r s np : ℕ} (q : ℕ) (w : Test h tints marks r s np) (from : lo h.plan r ≤ q) (till : q ≤ hi h.plan r)
+module _ {h : Ground} {tints marks : List ℕ} {r : ℕ} {shape : Shape} (q : ℕ) (w : Test h tints marks r shape) (from : lo h.plan r ≤ q) (till : q ≤ hi h.plan r)
     (f : Fresh h (out_at h r q)) {heads : List ℤ} {up down : List ℕ}
     (l : Holds (taken h (out_at h r q)) heads up down) where
   pub place-some : 0 < q
   place-some = omega (arith, from, w.tested.tidy.planned.from (h.plan.number r) w.tested.entry.option)
 
-  pub to-behind : Behind h tints (q - 1) r s heads up down
+  pub to-behind : Behind h tints (q - 1) r shape.start heads up down
   to-behind =
       let e : q - 1 + 1 ≡ q = omega (arith, place-some) in
       record {
@@ -39,8 +40,8 @@ module _ {h : Ground} {tints marks : List ℕ} {r s np : ℕ} (q : ℕ) (w : Tes
         holds = rw e l;
       }
 
-module _ {h : Ground} {tints marks : List ℕ} {r s np : ℕ} {heads : List ℤ} {up down : List ℕ} {q p qq : ℕ} (m : Stopped h tints marks r s np q p qq heads up down) where
-  I : Inner h tints marks r s np q p qq heads up down
+module _ {h : Ground} {tints marks : List ℕ} {r : ℕ} {shape : Shape} {heads : List ℤ} {up down : List ℕ} {q p qq : ℕ} (m : Stopped h tints marks r shape q p qq heads up down) where
+  I : Inner h tints marks r shape q p qq heads up down
   I = m.inner
 
   t : Tidy h
@@ -59,7 +60,7 @@ module _ {h : Ground} {tints marks : List ℕ} {r s np : ℕ} {heads : List ℤ}
       record { tidy = to-tidy I; entry = p-row; from = rw e I.from; till = rw e I.till; fresh = rw e I.fresh; holds = rw e I.holds }
 
   -- then the column, from the node above p
-  stopped-above : {heads' : List ℤ} {up' down' : List ℕ} → Holds (ground_to h r q p) heads' up' down' → Above (ground_at h r q) tints p (at tints q) s heads' up' down'
+  stopped-above : {heads' : List ℤ} {up' down' : List ℕ} → Holds (ground_to h r q p) heads' up' down' → Above (ground_at h r q) tints p (at tints q) shape.start heads' up' down'
   stopped-above {heads'} {up'} {down'} l =
       -- the rivals above p, in p's own column
       let rivals : ℕ → List ℕ = λ i. gather_to (rival_at (ground_at h r q) i (h.plan.tint q)) (ground_at h r q) p in
@@ -78,9 +79,9 @@ module _ {h : Ground} {tints marks : List ℕ} {r s np : ℕ} {heads : List ℤ}
   stopped-link l = link-in (stopped-above l)
 
   pub stopped-below : {heads' : List ℤ} {up' down' : List ℕ} {u : ℕ} → Holds (ground_to h r q p) heads' up' down' → u ≡ at up' p
-      → Below (ground_at h r q) tints u (at tints q) s heads' up' down'
+      → Below (ground_at h r q) tints u (at tints q) shape.start heads' up' down'
   stopped-below l = step-up (stopped-above l)
 
   -- then the items before q
-  pub stopped-behind : {heads' : List ℤ} {up' down' : List ℕ} → Holds (ground_at h r q) heads' up' down' → Behind h tints (q - 1) r s heads' up' down'
+  pub stopped-behind : {heads' : List ℤ} {up' down' : List ℕ} → Holds (ground_at h r q) heads' up' down' → Behind h tints (q - 1) r shape.start heads' up' down'
   stopped-behind l = to-behind q I.item.test I.item.from (omega (arith, I.item.till)) I.item.stage.fresh (holds-taken h (out_at h r q) l)

@@ -9,6 +9,7 @@ use borrow.Author.Tests.{not-true, not-false}
 use lib.ListN.{length}
 use lib.IntN.{ℤ}
 use Rattle.rules.specs.Blocked.{agree}
+use Rattle.links.specs.declared.shape.Shape.{Shape}
 use Rattle.links.specs.Head.{item_of, head}
 use Rattle.links.specs.Column.{at}
 use Rattle.links.specs.Plan.{EntryOf, Header, start}
@@ -28,7 +29,7 @@ use Rattle.blocking.proofs.Testing.{testing-more}
 use Rattle.blocking.proofs.Stages.{stage-more, item-entry, ground-tidy, rivals-fresh}
 
 -- An item that was tested is behind the walk.
-module _ {h : Ground} {tints marks : List ℕ} {r s np q : ℕ} (m : AtItem h tints marks r s np q) where
+module _ {h : Ground} {tints marks : List ℕ} {r : ℕ} {shape : Shape} {q : ℕ} (m : AtItem h tints marks r shape q) where
   t : Tidy h
   t = m.test.tested.tidy
 
@@ -41,8 +42,8 @@ module _ {h : Ground} {tints marks : List ℕ} {r s np q : ℕ} (m : AtItem h ti
   out-more : out_at h r (q + 1) ≡ out_at h r q ++ rivals (ground_at h r q) q
   out-more = ap (testing h) walked_more ∙ testing-more h (walked h r q) q
 
-  pub next-item : (heads : List ℤ) (up down : List ℕ) → Alive h marks r np heads → Holds (taken (ground_at h r q) (rivals (ground_at h r q) q)) heads up down
-      → Outer h tints marks r s np (q + 1) heads up down
+  pub next-item : (heads : List ℤ) (up down : List ℕ) → Alive h marks r shape.np heads → Holds (taken (ground_at h r q) (rivals (ground_at h r q) q)) heads up down
+      → Outer h tints marks r shape (q + 1) heads up down
   next-item heads up down a l = record {
     test = m.test;
     from = omega (arith, m.from);
@@ -53,22 +54,22 @@ module _ {h : Ground} {tints marks : List ℕ} {r s np q : ℕ} (m : AtItem h ti
   }
 
 -- Node p of q's column was dealt with, rival or not, and the walk has not gone on yet.
-pub record Passed (h : Ground) (tints marks : List ℕ) (r s np q p : ℕ) (heads : List ℤ) (up down : List ℕ) : Type 0 where
-  pub item : AtItem h tints marks r s np q
-  pub behind : s ≤ p
+pub record Passed (h : Ground) (tints marks : List ℕ) (r : ℕ) (shape : Shape) (q p : ℕ) (heads : List ℤ) (up down : List ℕ) : Type 0 where
+  pub item : AtItem h tints marks r shape q
+  pub behind : shape.start ≤ p
   pub on : (ground_at h r q).on p ≡ true
   pub col : h.plan.col p ≡ h.plan.col q
-  pub alive : Alive h marks r np heads
+  pub alive : Alive h marks r shape.np heads
   pub holds : Holds (taken (ground_at h r q) (rivals_to h r q (p + 1))) heads up down
 
-module _ {h : Ground} {tints marks : List ℕ} {r s np : ℕ} {heads : List ℤ} {up down : List ℕ} {q p : ℕ} (m : Middle h tints marks r s np q p heads up down) where
+module _ {h : Ground} {tints marks : List ℕ} {r : ℕ} {shape : Shape} {heads : List ℤ} {up down : List ℕ} {q p : ℕ} (m : Middle h tints marks r shape q p heads up down) where
   -- back at the header, the whole column was walked
-  pub leave : p < s → Outer h tints marks r s np (q + 1) heads up down
+  pub leave : p < shape.start → Outer h tints marks r shape (q + 1) heads up down
   leave l =
       next-item m.item heads up down m.alive
       (subst (λ (k : ℕ). Holds (taken (ground_at h r q) (rivals_to h r q k)) heads up down) (reach-past h.plan p (omega (arith, m.item.test.starts))) m.holds)
 
-  module _ (b : s ≤ p) where
+  module _ (b : shape.start ≤ p) where
     g-tidy : Tidy (ground_at h r q)
     g-tidy = ground-tidy m.item
 
@@ -92,7 +93,7 @@ module _ {h : Ground} {tints marks : List ℕ} {r s np : ℕ} {heads : List ℤ}
     same-colours = rw (m.item.test.tinted.tint q (item-entry m.item), m.item.test.tinted.tint p middle-entry)
 
     -- a rival: its others are walked
-    pub round : not (agree (at tints q) (at tints p)) ≡ true → Inner h tints marks r s np q p (p + 1) heads up down
+    pub round : not (agree (at tints q) (at tints p)) ≡ true → Inner h tints marks r shape q p (p + 1) heads up down
     round c =
         let w = walk_begins (ground_to h r q p) to-tidy p middle-entry in
         let n = walked_none (ground_to h r q p) to-tidy p middle-entry in
@@ -111,7 +112,7 @@ module _ {h : Ground} {tints marks : List ℕ} {r s np : ℕ} {heads : List ℤ}
         to-tidy = after-tidy (ground_at h r q) (rivals_to h r q p) g-tidy (rivals-fresh m.item p)
 
     -- no rival: nothing is taken here
-    pub spare : not (agree (at tints q) (at tints p)) ≡ false → Passed h tints marks r s np q p heads up down
+    pub spare : not (agree (at tints q) (at tints p)) ≡ false → Passed h tints marks r shape q p heads up down
     spare c = record {
       item = m.item;
       behind = b;
@@ -126,7 +127,7 @@ module _ {h : Ground} {tints marks : List ℕ} {r s np : ℕ} {heads : List ℤ}
     }
 
 -- The step down from there.
-module _ {h : Ground} {tints marks : List ℕ} {r s np q p : ℕ} {heads : List ℤ} {up down : List ℕ} (m : Passed h tints marks r s np q p heads up down) where
+module _ {h : Ground} {tints marks : List ℕ} {r : ℕ} {shape : Shape} {q p : ℕ} {heads : List ℤ} {up down : List ℕ} (m : Passed h tints marks r shape q p heads up down) where
   abbrev gone : List ℕ
   gone = rivals_to h r q (p + 1)
 
@@ -154,7 +155,7 @@ module _ {h : Ground} {tints marks : List ℕ} {r s np q p : ℕ} {heads : List 
   gathered : rivals_to h r q (reach h.plan (at down p)) ≡ gone
   gathered = rw m.holds.down-are (down-gathered column p stand (rival_at (ground_at h r q) (h.plan.col q) (h.plan.tint q)) inside)
 
-  pub step_down : Middle h tints marks r s np q (at down p) heads up down
+  pub step_down : Middle h tints marks r shape q (at down p) heads up down
   step_down = record {
     item = m.item;
     on = rw m.holds.down-are (down-stand column p stand).on;
@@ -166,7 +167,7 @@ module _ {h : Ground} {tints marks : List ℕ} {r s np q p : ℕ} {heads : List 
   room : h.plan.N ≤ length heads
   room = rw m.holds.heads-are column.now.heads-in
 
-  pub step_left : (n : ℕ) → length heads ≡ n → left n s (at down p) < left n s p
+  pub step_left : (n : ℕ) → length heads ≡ n → left n shape.start (at down p) < left n shape.start p
   step_left n c =
       rw (m.holds.down-are, m.item.test.starts)
       (step_less (after (ground_at h r q) gone) column.now (h.plan.col q) hd p (record { on = column.still p m.col ∙ m.on; col = m.col }) n (omega (arith, c, room)) passed-start)

@@ -14,6 +14,7 @@ use mathlib.Core.List.Memᴰ.{not-nil}
 use mathlib.Core.List.{List, [], ◌∷◌, ◌++◌, Memᴰ as In}
 use lib.IntN.{pos}
 use Rattle.rules.specs.Blocked.{agree}
+use Rattle.links.specs.declared.shape.Shape.{Shape}
 use Rattle.links.specs.Head.{head}
 use Rattle.links.specs.Plan.{EntryOf, start}
 use Rattle.links.specs.Ground.{Ground, Tidy, Within, taken, Fresh}
@@ -39,7 +40,7 @@ out-more : {h : Ground} (qs rs xs ys : List ℕ) {y : ℕ} → Out h qs xs y →
 out-more qs rs xs ys o = record { met = o.met; clash = clash-more qs rs o.clash; one = o.one; all = λ z m. In-append-l ys (o.all z m) }
 
 -- An item q of r, and the ground when the walk came to it.
-module _ {h : Ground} {tints marks : List ℕ} {r s np q : ℕ} (m : AtItem h tints marks r s np q) where
+module _ {h : Ground} {tints marks : List ℕ} {r : ℕ} {shape : Shape} {q : ℕ} (m : AtItem h tints marks r shape q) where
   t : Tidy h
   t = m.test.tested.tidy
 

@@ -7,18 +7,19 @@ use Rattle.links.specs.Column.{at}
 use Rattle.links.specs.Plan.{lo, hi, EntryOf, Header, start}
 use Rattle.links.specs.Ground.{Ground, taken, Fresh, Holds, after}
 use Rattle.links.specs.Row.{walked, others}
+use Rattle.links.specs.declared.shape.Shape.{Shape}
 use Rattle.links.specs.Way.{reach}
 use Rattle.links.specs.Shown.{Tinted}
 use Rattle.links.specs.Taking.{length_of, gather_to, rival_at, testing, Tested, Marked}
 use Rattle.blocking.specs.Stops.{stops_at}
 
 -- What the test of r asks of the ground h in which it runs, and of the other lists.
-pub record Test (h : Ground) (tints marks : List ℕ) (r first np : ℕ) : Type 0 where
+pub record Test (h : Ground) (tints marks : List ℕ) (r : ℕ) (shape : Shape) : Type 0 where
   pub tested : Tested h r
   pub tinted : Tinted h.plan tints
   pub marked : Marked h r marks
-  pub starts : first ≡ start h.plan
-  pub few : np ≤ h.plan.n
+  pub starts : shape.start ≡ start h.plan
+  pub few : shape.np ≤ h.plan.n
 
 -- Node rr is of an option that clashes with one of the items qs of r.
 pub record Clash (h : Ground) (qs : List ℕ) (rr : ℕ) : Type 0 where
@@ -54,17 +55,17 @@ abbrev pub ground_at : Ground → ℕ → ℕ → Ground
 ground_at h r q = after h (out_at h r q)
 
 -- At the item of q.
-pub record Outer (h : Ground) (tints marks : List ℕ) (r first np q : ℕ) (heads : List ℤ) (up down : List ℕ) : Type 0 where
-  pub test : Test h tints marks r first np
+pub record Outer (h : Ground) (tints marks : List ℕ) (r : ℕ) (shape : Shape) (q : ℕ) (heads : List ℤ) (up down : List ℕ) : Type 0 where
+  pub test : Test h tints marks r shape
   pub from : lo h.plan r ≤ q
   pub till : q ≤ hi h.plan r
   pub stage : Stage h (walked h r q) (out_at h r q)
-  pub alive : Alive h marks r np heads
+  pub alive : Alive h marks r shape.np heads
   pub holds : Holds (taken h (out_at h r q)) heads up down
 
 -- q is another item of r, which is tested now
-pub record AtItem (h : Ground) (tints marks : List ℕ) (r first np q : ℕ) : Type 0 where
-  pub test : Test h tints marks r first np
+pub record AtItem (h : Ground) (tints marks : List ℕ) (r : ℕ) (shape : Shape) (q : ℕ) : Type 0 where
+  pub test : Test h tints marks r shape
   pub from : lo h.plan r ≤ q
   pub till : q < hi h.plan r
   pub other : q ≢ r
@@ -80,26 +81,26 @@ abbrev pub ground_to : Ground → ℕ → ℕ → ℕ → Ground
 ground_to h r q k = after (ground_at h r q) (rivals_to h r q k)
 
 -- At node rr of q's column.
-pub record Middle (h : Ground) (tints marks : List ℕ) (r first np q rr : ℕ) (heads : List ℤ) (up down : List ℕ) : Type 0 where
-  pub item : AtItem h tints marks r first np q
+pub record Middle (h : Ground) (tints marks : List ℕ) (r : ℕ) (shape : Shape) (q rr : ℕ) (heads : List ℤ) (up down : List ℕ) : Type 0 where
+  pub item : AtItem h tints marks r shape q
   pub on : (ground_at h r q).on rr ≡ true
   pub col : h.plan.col rr ≡ h.plan.col q
-  pub alive : Alive h marks r np heads
+  pub alive : Alive h marks r shape.np heads
   pub holds : Holds (taken (ground_at h r q) (rivals_to h r q (reach h.plan rr))) heads up down
 
 -- At node qq of the rival rr.
-pub record Inner (h : Ground) (tints marks : List ℕ) (r first np q rr qq : ℕ) (heads : List ℤ) (up down : List ℕ) : Type 0 where
-  pub item : AtItem h tints marks r first np q
+pub record Inner (h : Ground) (tints marks : List ℕ) (r : ℕ) (shape : Shape) (q rr qq : ℕ) (heads : List ℤ) (up down : List ℕ) : Type 0 where
+  pub item : AtItem h tints marks r shape q
   pub rival : rival_at (ground_at h r q) (h.plan.col q) (h.plan.tint q) rr ≡ true
   pub from : lo h.plan rr ≤ qq
   pub till : qq ≤ hi h.plan rr
   pub fresh : Fresh (ground_to h r q rr) (walked (ground_to h r q rr) rr qq)
-  pub alive : Alive h marks r np heads
+  pub alive : Alive h marks r shape.np heads
   pub holds : Holds (taken (ground_to h r q rr) (walked (ground_to h r q rr) rr qq)) heads up down
 
 -- There the walk breaks off.
-pub record Stopped (h : Ground) (tints marks : List ℕ) (r first np q rr qq : ℕ) (heads : List ℤ) (up down : List ℕ) : Type 0 where
-  pub inner : Inner h tints marks r first np q rr qq heads up down
+pub record Stopped (h : Ground) (tints marks : List ℕ) (r : ℕ) (shape : Shape) (q rr qq : ℕ) (heads : List ℤ) (up down : List ℕ) : Type 0 where
+  pub inner : Inner h tints marks r shape q rr qq heads up down
   pub other : qq ≢ rr
   pub full : item_of (head heads qq) ≢ 0
-  pub stops : stops_at heads marks (item_of (head heads qq)) r np ≡ true
+  pub stops : stops_at heads marks (item_of (head heads qq)) r shape.np ≡ true

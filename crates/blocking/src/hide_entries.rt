@@ -1,5 +1,5 @@
 // The walk of the test, forwards.
-ghost use Rattle.std.specs.Prelude.{◌≡◌, ℕ, MatchOption};
+ghost use Rattle.std.specs.Prelude.{MatchOption};
 ghost use Rattle.links.specs.Ground.{Ground, Holds};
 ghost use Rattle.links.specs.Nodes.{in_nodes, SameNodes};
 ghost use Rattle.blocking.specs.Forward.{Test, Outer, Stopped};
@@ -18,12 +18,12 @@ pub struct Place {
 // Tests the option of r: items of the option outside, rival options in the item's column and their entries inside. Breaks off at the first
 // entry whose taking would empty a primary item that r does not hold, before it is taken, and gives the place for undoing; else it comes round.
 pub fn hide_entries(nodes: &mut Nodes, tints: &[u32], marks: &[u32], r: usize) -> Option<Place>
-    requires { (h : Ground) × Test h tints.now marks.now r nodes.old.start nodes.old.np × in_nodes (Holds h) nodes.old }
+    requires { (h : Ground) × Test h tints.now marks.now r nodes.old.shape × in_nodes (Holds h) nodes.old }
     ensures nodes { SameNodes nodes.old nodes.new }
-    ensures place { (h : Ground) → Test h tints.now marks.now r nodes.old.start nodes.old.np → in_nodes (Holds h) nodes.old
+    ensures place { (h : Ground) → Test h tints.now marks.now r nodes.old.shape → in_nodes (Holds h) nodes.old
         → MatchOption result
-        (in_nodes (Outer h tints.now marks.now r nodes.old.start nodes.old.np r) nodes.new)
-        (λ place. in_nodes (Stopped h tints.now marks.now r nodes.old.start nodes.old.np place.q place.rr place.qq) nodes.new) }
+        (in_nodes (Outer h tints.now marks.now r nodes.old.shape r) nodes.new)
+        (λ place. in_nodes (Stopped h tints.now marks.now r nodes.old.shape place.q place.rr place.qq) nodes.new) }
 {
     let mut q = r + 1;
     // three walks along links, one in another: each node says which is next. One function, as in the Rust: a place that is found ends all three.
@@ -34,7 +34,7 @@ pub fn hide_entries(nodes: &mut Nodes, tints: &[u32], marks: &[u32], r: usize) -
         };
         let tint = tints[q];
         let mut rr = nodes.below(i);
-        while rr >= nodes.start {
+        while rr >= nodes.shape.start {
             if clash(tint, tints[rr]) {
                 let mut qq = rr + 1;
                 while qq != rr {

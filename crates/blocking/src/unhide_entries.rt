@@ -1,5 +1,5 @@
 // Undoing the walk round one rival.
-ghost use Rattle.std.specs.Prelude.{◌≡◌, ℕ};
+
 ghost use Rattle.links.specs.Ground.{Ground, Holds};
 ghost use Rattle.links.specs.Nodes.{in_nodes, SameNodes};
 ghost use Rattle.blocking.specs.Undo.{Half};

@@ -1,5 +1,5 @@
 // The entries of one option, each at the end of its column.
-ghost use Rattle.std.specs.Prelude.{◌≡◌, ℕ, ◌+◌, ◌<◌, ◌≤◌, length, pos, slice_set};
+ghost use Rattle.std.specs.Prelude.{◌≡◌, ◌+◌, ◌<◌, length, pos, slice_set};
 ghost use Rattle.rules.specs.Bounds.{node_bound};
 ghost use Rattle.links.specs.Head.{item_of, head, Growing};
 ghost use Rattle.links.specs.Column.{at};

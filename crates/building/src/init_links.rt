@@ -1,5 +1,5 @@
 // The building of the nodes.
-ghost use Rattle.std.specs.Prelude.{◌≡◌, ℕ, length};
+ghost use Rattle.std.specs.Prelude.{ℕ, length};
 ghost use Rattle.rules.specs.Problem.{Figures, problem_of};
 ghost use Rattle.links.specs.Nodes.{in_nodes, SameNodes};
 ghost use Rattle.building.specs.Build.{Buildable, Built};
@@ -13,17 +13,17 @@ use rules::number::Opt;
 
 // All of it: headers, and the options in their order. An option without a primary item keeps its number and gets no nodes.
 pub fn init_links(nodes: &mut Nodes, tints: &mut [u32], marks: &mut [u32], lists: &Lists)
-    requires { (f : Figures) × (ns : ℕ) × in_nodes (Buildable f nodes.old.np ns nodes.old.n lists.now.items.now lists.now.colours.now lists.now.ends.now)
+    requires { (f : Figures) × (ns : ℕ) × in_nodes (Buildable f nodes.old.shape.np ns nodes.old.shape.n lists.now.items.now lists.now.colours.now lists.now.ends.now)
         nodes.old tints.old marks.old }
     ensures nodes { SameNodes nodes.old nodes.new }
     ensures lists { (f : Figures) (ns : ℕ)
-        → in_nodes (Buildable f nodes.old.np ns nodes.old.n lists.now.items.now lists.now.colours.now lists.now.ends.now)
+        → in_nodes (Buildable f nodes.old.shape.np ns nodes.old.shape.n lists.now.items.now lists.now.colours.now lists.now.ends.now)
         nodes.old tints.old marks.old
-        → in_nodes (Built (problem_of nodes.old.np ns lists.now.items.now lists.now.colours.now lists.now.ends.now) nodes.old.n (length lists.now.ends.now))
+        → in_nodes (Built (problem_of nodes.old.shape.np ns lists.now.items.now lists.now.colours.now lists.now.ends.now) nodes.old.shape.n (length lists.now.ends.now))
         nodes.new tints.new marks.new }
 {
     clear_headers(nodes, marks);
-    let mut edge = nodes.n + 1;
+    let mut edge = nodes.shape.n + 1;
     let mut begin = 0;
     for (k, &end) in lists.ends.iter().enumerate() {
         let end = end as usize;

@@ -1,5 +1,5 @@
 // One option: whether it holds a primary item, its entries, and the boundary behind them.
-ghost use Rattle.std.specs.Prelude.{◌≡◌, ℕ, ◌+◌, ◌-◌, ◌<◌, ◌≤◌, length, negsuc, slice_set};
+ghost use Rattle.std.specs.Prelude.{◌≡◌, ◌+◌, ◌-◌, ◌<◌, length, negsuc, slice_set};
 ghost use Rattle.rules.specs.Bounds.{node_bound};
 ghost use Rattle.links.specs.Nodes.{in_nodes, SameNodes};
 ghost use Rattle.links.specs.Plan.{Plan};
@@ -43,13 +43,13 @@ pub fn put_option(
     colours: &[u32],
 ) -> usize
     requires lengths { length colours.now ≡ length items.now }
-    requires turn { (P : Plan) × in_nodes (Turn P nodes.old.np k.0 edge items.now colours.now) nodes.old tints.old }
+    requires turn { (P : Plan) × in_nodes (Turn P nodes.old.shape.np k.0 edge items.now colours.now) nodes.old tints.old }
     ensures nodes { SameNodes nodes.old nodes.new }
-    ensures place { result ≡ behind nodes.old.np edge items.now }
-    ensures laid { (P : Plan) → in_nodes (Turn P nodes.old.np k.0 edge items.now colours.now) nodes.old tints.old
+    ensures place { result ≡ behind nodes.old.shape.np edge items.now }
+    ensures laid { (P : Plan) → in_nodes (Turn P nodes.old.shape.np k.0 edge items.now colours.now) nodes.old tints.old
         → in_nodes (Open P 0 (result + 1)) nodes.new tints.new }
 {
-    if !has_primary(items, nodes.np) {
+    if !has_primary(items, nodes.shape.np) {
         return edge;
     }
     put_entries(nodes, tints, edge, items, colours);

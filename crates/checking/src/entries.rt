@@ -2,7 +2,7 @@
 //
 // Check 22 costs one look for each entry: a mark for each item holds the number of the option that last had it, plus one, so that the marks of
 // the options before need not be taken away.
-ghost use Rattle.std.specs.Prelude.{◌≡◌, List, [], ℕ, ◌+◌, ◌<◌, ◌≤◌, length, get_or};
+ghost use Rattle.std.specs.Prelude.{◌≡◌, List, [], ℕ, ◌+◌, ◌<◌, ◌≤◌, length};
 ghost use Rattle.std.proofs.Math.Seq.{slice};
 ghost use Rattle.rules.specs.Bounds.{word_bound};
 ghost use Rattle.rules.specs.Problem.{entries_of, cut};

@@ -5,6 +5,7 @@ use mathlib.Core.Path.{refl, sym, subst}
 use mathlib.Core.List.{List}
 use lib.ListN.{length}
 use lib.IntN.{ℤ}
+use Rattle.links.specs.declared.shape.Shape.{Shape}
 use Rattle.links.specs.Column.{at}
 use Rattle.links.specs.Plan.{start, Header}
 use Rattle.links.specs.Ground.{Ground, Tidy}
@@ -19,7 +20,7 @@ pub record Found (g : Ground) (i np z : ℕ) (tints marks : List ℕ) (r : ℕ) 
   pub stand : Stand (hiding g i) (i + 1) r
   pub tried : Tried g i np (reach g.plan r) z tints marks
 
-module _ {g : Ground} {i c first np : ℕ} {heads : List ℤ} {up down tints₀ marks₀ : List ℕ} (s : Search g i c first np) (w : Hiding g i heads up down tints₀ marks₀) where
+module _ {g : Ground} {i c : ℕ} {shape : Shape} {heads : List ℤ} {up down tints₀ marks₀ : List ℕ} (s : Search g i c shape) (w : Hiding g i heads up down tints₀ marks₀) where
   own : Header g.plan (i + 1)
   own = subst (Header g.plan) s.column s.header
 
@@ -32,35 +33,35 @@ module _ {g : Ground} {i c first np : ℕ} {heads : List ℤ} {up down tints₀ 
   pub find-column : c < length down
   find-column = omega (arith, header-before g.plan s.ready.tidy.planned c s.header, s.ready.tidy.planned.room, room)
 
-  pub find-begin : Found g i np 0 tints₀ marks₀ (at down c)
+  pub find-begin : Found g i shape.np 0 tints₀ marks₀ (at down c)
   find-begin = rw (w.holds.down-are, s.column) (record {
-    stand = search-stand g s.ready i own np;
-    tried = record { tinted = w.tinted; known = w.known; chain = subst (Chain g.plan tints₀ 0) (sym (first-none g s.ready i own np)) refl };
+    stand = search-stand g s.ready i own shape.np;
+    tried = record { tinted = w.tinted; known = w.known; chain = subst (Chain g.plan tints₀ 0) (sym (first-none g s.ready i own shape.np)) refl };
   })
 
-  module _ {z r : ℕ} {tints marks : List ℕ} (p : Found g i np z tints marks r) where
+  module _ {z r : ℕ} {tints marks : List ℕ} (p : Found g i shape.np z tints marks r) where
     pub find-down : r < length down
     find-down = omega (arith, stand-in (hiding g i) tidy (i + 1) own r p.stand, room)
 
-    module _ (l : first ≤ r) where
+    module _ (l : shape.start ≤ r) where
       behind : start g.plan ≤ r
       behind = omega (arith, l, s.begins)
 
-      pub find-trying : Trying g i r first np z heads up down tints marks
+      pub find-trying : Trying g i r shape z heads up down tints marks
       find-trying = record {
         ready = s.ready;
         begins = s.begins;
         few = s.few;
         holds = w.holds;
-        column = stand-column g s.ready i own np r p.stand behind;
-        tried = subst (λ (k : ℕ). Tried g i np k z tints marks) (reach-at g.plan r behind) p.tried;
+        column = stand-column g s.ready i own shape.np r p.stand behind;
+        tried = subst (λ (k : ℕ). Tried g i shape.np k z tints marks) (reach-at g.plan r behind) p.tried;
       }
 
-      pub find-next : {z' : ℕ} {tints' marks' : List ℕ} → Tried g i np (r + 1) z' tints' marks' → Found g i np z' tints' marks' (at down r)
+      pub find-next : {z' : ℕ} {tints' marks' : List ℕ} → Tried g i shape.np (r + 1) z' tints' marks' → Found g i shape.np z' tints' marks' (at down r)
       find-next {z'} {tints'} t = rw w.holds.down-are (record {
         stand = stand-next (hiding g i) tidy (i + 1) own r p.stand;
-        tried = record { tinted = t.tinted; known = t.known; chain = subst (Chain g.plan tints' z') (sym (next-same g s.ready i own np r p.stand)) t.chain };
+        tried = record { tinted = t.tinted; known = t.known; chain = subst (Chain g.plan tints' z') (sym (next-same g s.ready i own shape.np r p.stand)) t.chain };
       })
 
-      pub find-less : left (length heads) first (at down r) < left (length heads) first r
+      pub find-less : left (length heads) shape.start (at down r) < left (length heads) shape.start r
       find-less = rw (w.holds.down-are, s.begins) (step_less (hiding g i) tidy (i + 1) own r p.stand (length heads) (rw w.holds.heads-are tidy.heads-in) behind)

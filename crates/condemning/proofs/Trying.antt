@@ -10,6 +10,7 @@ use borrow.Author.Tests.{eq-eqb, ne_eqb}
 use lib.Dec.{eqb}
 use lib.ListN.{length, set}
 use lib.IntN.{ℤ}
+use Rattle.links.specs.declared.shape.Shape.{Shape}
 use Rattle.links.specs.Head.{item_of, head}
 use Rattle.links.specs.Column.{at}
 use Rattle.links.specs.Plan.{EntryOf}
@@ -36,7 +37,7 @@ pub record Testing (g : Ground) (i r q : ℕ) (heads : List ℤ) (tints marks : 
   pub known : Known (hiding g i) g.on marks
   pub marked : Marked (hiding g i) r marks
 
-module _ {g : Ground} {i r first np z : ℕ} {heads : List ℤ} {up down tints marks : List ℕ} (t : Trying g i r first np z heads up down tints marks) where
+module _ {g : Ground} {i r : ℕ} {shape : Shape} {z : ℕ} {heads : List ℤ} {up down tints marks : List ℕ} (t : Trying g i r shape z heads up down tints marks) where
   entry : EntryOf g.plan r
   entry = (column-entry g t.ready.tidy (i + 1) r t.column).0
 
@@ -47,8 +48,8 @@ module _ {g : Ground} {i r first np z : ℕ} {heads : List ℤ} {up down tints m
   try-node = omega (arith, entry-from g.plan t.ready.tidy.planned r entry)
 
   -- a coloured one is not tested
-  pub try-coloured : at tints r ≢ 0 → Tried g i np (r + 1) z tints marks
-  try-coloured n = tried-not g t.ready i r t.column np (coloured-not g t.ready i r t.column np (λ e. n (t.tried.tinted.tint r entry ∙ e))) t.tried
+  pub try-coloured : at tints r ≢ 0 → Tried g i shape.np (r + 1) z tints marks
+  try-coloured n = tried-not g t.ready i r t.column shape.np (coloured-not g t.ready i r t.column shape.np (λ e. n (t.tried.tinted.tint r entry ∙ e))) t.tried
 
   -- the walk back
   pub try-led : Led (hiding g i) r heads down
@@ -62,8 +63,8 @@ module _ {g : Ground} {i r first np z : ℕ} {heads : List ℤ} {up down tints m
     first-is = rw t.holds.heads-are (led-first g t.ready i r t.column l)
 
     -- one that is not the first is not tested
-    pub try-later : item_of (head heads q) ≢ 0 → Tried g i np (r + 1) z tints marks
-    try-later n = tried-not g t.ready i r t.column np (later-not g t.ready i r t.column np (sym first-is ∙ ne_eqb (item_of (head heads q)) 0 n)) t.tried
+    pub try-later : item_of (head heads q) ≢ 0 → Tried g i shape.np (r + 1) z tints marks
+    try-later n = tried-not g t.ready i r t.column shape.np (later-not g t.ready i r t.column shape.np (sym first-is ∙ ne_eqb (item_of (head heads q)) 0 n)) t.tried
 
     live : item_of (head heads q) ≡ 0 → first_live g r ≡ true
     live f = sym first-is ∙ eq-eqb (item_of (head heads q)) 0 f
@@ -79,22 +80,22 @@ module _ {g : Ground} {i r first np z : ℕ} {heads : List ℤ} {up down tints m
     plain : g.plan.tint r ≡ 0
     plain = sym (t.tried.tinted.tint r entry) ∙ x.plain
 
-    tested : condemned_at np i g r ≡ node_blocked (hiding g i) r np
-    tested = tested-is g t.ready i r t.column np plain (live x.leads x.first)
+    tested : condemned_at shape.np i g r ≡ node_blocked (hiding g i) r shape.np
+    tested = tested-is g t.ready i r t.column shape.np plain (live x.leads x.first)
 
-    marked-tried : Tried g i np r z tints marks'
+    marked-tried : Tried g i shape.np r z tints marks'
     marked-tried = record { tinted = t.tried.tinted; known = hidden-known g t.ready i marks' x.known; chain = t.tried.chain }
 
-    pub try-test : Test (hiding g i) tints marks' r first np
+    pub try-test : Test (hiding g i) tints marks' r shape
     try-test = record { tested = search-tested g t.ready i r t.column plain; tinted = t.tried.tinted; marked = x.marked; starts = t.begins; few = t.few }
 
-    pub try-no : node_blocked (hiding g i) r np ≡ false → Tried g i np (r + 1) z tints marks'
-    try-no b = tried-not g t.ready i r t.column np (tested ∙ b) marked-tried
+    pub try-no : node_blocked (hiding g i) r shape.np ≡ false → Tried g i shape.np (r + 1) z tints marks'
+    try-no b = tried-not g t.ready i r t.column shape.np (tested ∙ b) marked-tried
 
-    pub try-yes : node_blocked (hiding g i) r np ≡ true → Tried g i np (r + 1) r (set tints q z) marks'
+    pub try-yes : node_blocked (hiding g i) r shape.np ≡ true → Tried g i shape.np (r + 1) r (set tints q z) marks'
     try-yes b =
-        subst (λ (y : ℕ). Tried g i np (r + 1) r (set tints y z) marks') (sym (led-before g t.ready i r t.column x.leads (live x.leads x.first)))
-        (tried-yes g t.ready i r t.column np (tested ∙ b) marked-tried)
+        subst (λ (y : ℕ). Tried g i shape.np (r + 1) r (set tints y z) marks') (sym (led-before g t.ready i r t.column x.leads (live x.leads x.first)))
+        (tried-yes g t.ready i r t.column shape.np (tested ∙ b) marked-tried)
 
   pub try_holds : Holds (hiding g i) heads up down
   try_holds = holds-after g (hides g (i + 1)) t.holds
@@ -103,4 +104,4 @@ module _ {g : Ground} {i r first np z : ℕ} {heads : List ℤ} {up down tints m
   pub try-small : z < node_bound
   try-small =
       ⊎_elim (λ e. let c = subst (Chain g.plan tints z) e t.tried.chain in omega (arith, c))
-      (λ w. let c = subst (Chain g.plan tints z) w.3 t.tried.chain in omega (arith, c.0, w.1, inside, t.ready.tidy.planned.small)) (down-front (condemned_at np i g) r)
+      (λ w. let c = subst (Chain g.plan tints z) w.3 t.tried.chain in omega (arith, c.0, w.1, inside, t.ready.tidy.planned.small)) (down-front (condemned_at shape.np i g) r)

@@ -1,6 +1,7 @@
 -- The tests of item i, whose column is i + 1, while it is hidden: what is asked, and what is found. The options found blocked are kept in a chain, the highest
 -- first: the colour of the boundary before an option's entries names the one found before it. Assumes nothing.
 use Rattle.std.specs.Prelude.{ℕ, zero, suc, ◌+◌, ◌-◌, ◌≤◌, ◌≡◌, Bool, true, cond, List, [], ◌∷◌, ◌++◌, ℤ}
+use Rattle.links.specs.declared.shape.Shape.{Shape}
 use Rattle.links.specs.Column.{at}
 use Rattle.links.specs.Plan.{Plan, start, lo, Header}
 use Rattle.links.specs.Ground.{Ground, Holds, taken}
@@ -19,13 +20,13 @@ abbrev pub Chain : Plan → List ℕ → ℕ → List ℕ → Type 0
 Chain P tints z [] = z ≡ 0
 Chain P tints z (r ∷ rs) = (z ≡ r) × Chain P tints (at tints (lo P r - 1)) rs
 
--- g is the ground before item i, of column c, was hidden; first: the first node behind the headers
-pub record Search (g : Ground) (i c first np : ℕ) : Type 0 where
+-- g is the ground before item i, of column c, was hidden
+pub record Search (g : Ground) (i c : ℕ) (shape : Shape) : Type 0 where
   pub ready : Ready g
   pub column : c ≡ i + 1
   pub header : Header g.plan c
-  pub begins : first ≡ start g.plan
-  pub few : np ≤ g.plan.n
+  pub begins : shape.start ≡ start g.plan
+  pub few : shape.np ≤ g.plan.n
 
 -- the lists while it is hidden
 pub record Hiding (g : Ground) (i : ℕ) (heads : List ℤ) (up down tints marks : List ℕ) : Type 0 where
@@ -40,13 +41,13 @@ pub record Tried (g : Ground) (i np k z : ℕ) (tints marks : List ℕ) : Type 0
   pub chain : Chain g.plan tints z (down_to (condemned_at np i g) k)
 
 -- The test of the option of node r: what is asked.
-pub record Trying (g : Ground) (i r first np z : ℕ) (heads : List ℤ) (up down tints marks : List ℕ) : Type 0 where
+pub record Trying (g : Ground) (i r : ℕ) (shape : Shape) (z : ℕ) (heads : List ℤ) (up down tints marks : List ℕ) : Type 0 where
   pub ready : Ready g
-  pub begins : first ≡ start g.plan
-  pub few : np ≤ g.plan.n
+  pub begins : shape.start ≡ start g.plan
+  pub few : shape.np ≤ g.plan.n
   pub holds : Holds (taken g (hides g (i + 1))) heads up down
   pub column : in_column g (i + 1) r ≡ true
-  pub tried : Tried g i np r z tints marks
+  pub tried : Tried g i shape.np r z tints marks
 
 -- The deletion of what was found, after the item is shown again: what is asked.
 pub record Sparing (g : Ground) (i np z : ℕ) (heads : List ℤ) (up down tints : List ℕ) : Type 0 where

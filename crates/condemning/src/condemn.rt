@@ -21,12 +21,12 @@ fn test_at(
     stack: Option<usize>,
 ) -> Option<usize>
     requires { (g : Ground) × (i z : ℕ) × (stack ≡ column z)
-        × in_nodes (Trying g i r nodes.old.start nodes.old.np z) nodes.old tints.old marks.old }
+        × in_nodes (Trying g i r nodes.old.shape z) nodes.old tints.old marks.old }
     ensures nodes { SameNodes nodes.old nodes.new }
     ensures same { Untouched nodes.old nodes.new }
     ensures found { (g : Ground) (i z : ℕ) → stack ≡ column z
-        → in_nodes (Trying g i r nodes.old.start nodes.old.np z) nodes.old tints.old marks.old
-        → (w : ℕ) × (result ≡ column w) × Tried g i nodes.old.np (r + 1) w tints.new marks.new }
+        → in_nodes (Trying g i r nodes.old.shape z) nodes.old tints.old marks.old
+        → (w : ℕ) × (result ≡ column w) × Tried g i nodes.old.shape.np (r + 1) w tints.new marks.new }
 {
     // 0 is no colour, as C lends the list
     if tints[r] != 0 {
@@ -46,18 +46,18 @@ fn test_at(
 
 // All tests for item c, while it is hidden; the last option found blocked.
 pub fn condemn(nodes: &mut Nodes, tints: &mut [u32], marks: &mut [u32], c: usize) -> Option<usize>
-    requires { (g : Ground) × (i : ℕ) × Search g i c nodes.old.start nodes.old.np
+    requires { (g : Ground) × (i : ℕ) × Search g i c nodes.old.shape
         × in_nodes (Hiding g i) nodes.old tints.old marks.old }
     ensures nodes { SameNodes nodes.old nodes.new }
     ensures same { Untouched nodes.old nodes.new }
-    ensures found { (g : Ground) (i : ℕ) → Search g i c nodes.old.start nodes.old.np
+    ensures found { (g : Ground) (i : ℕ) → Search g i c nodes.old.shape
         → in_nodes (Hiding g i) nodes.old tints.old marks.old
-        → (w : ℕ) × (result ≡ column w) × Tried g i nodes.old.np g.plan.N w tints.new marks.new }
+        → (w : ℕ) × (result ≡ column w) × Tried g i nodes.old.shape.np g.plan.N w tints.new marks.new }
 {
     let mut stack = None;
     let mut r = nodes.below(c);
     // down the column's links
-    while r >= nodes.start {
+    while r >= nodes.shape.start {
         stack = test_at(nodes, tints, marks, r, stack);
         r = nodes.below(r);
     }
@@ -71,11 +71,11 @@ pub fn delete_condemned(
     stack: Option<usize>,
 ) -> Result<(), Emptied>
     requires { (g : Ground) × (i z : ℕ) × (stack ≡ column z)
-        × in_nodes (Sparing g i nodes.old.np z) nodes.old tints.now }
+        × in_nodes (Sparing g i nodes.old.shape.np z) nodes.old tints.now }
     ensures nodes { SameNodes nodes.old nodes.new }
     ensures deleted { (g : Ground) (i z : ℕ) → stack ≡ column z
-        → in_nodes (Sparing g i nodes.old.np z) nodes.old tints.now
-        → (w : ℕ) × (result ≡ ending w) × in_nodes (Spared g i nodes.old.np) nodes.new w }
+        → in_nodes (Sparing g i nodes.old.shape.np z) nodes.old tints.now
+        → (w : ℕ) × (result ≡ ending w) × in_nodes (Spared g i nodes.old.shape.np) nodes.new w }
 {
     let mut next = stack;
     // along the chain, which is known link by link

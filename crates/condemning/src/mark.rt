@@ -1,5 +1,5 @@
 // The items of a tested option are marked with its first live entry, so that the test knows them.
-ghost use Rattle.std.specs.Prelude.{◌≡◌, Bool, ℕ};
+ghost use Rattle.std.specs.Prelude.{Bool, ℕ};
 ghost use Rattle.links.specs.Ground.{Ground};
 ghost use Rattle.links.specs.Taking.{Marked};
 ghost use Rattle.condemning.specs.Marks.{Known, Marking};

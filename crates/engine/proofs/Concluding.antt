@@ -90,9 +90,9 @@ module _ {h : Handed} (t : TakenIn h) where
   pub call-small : h.np + h.ns < node_bound
   call-small = omega (arith, P.items)
 
-  pub call-buildable : {n : ℕ} → n ≡ h.np + h.ns
-      → Buildable figures h.np h.ns n h.items h.colours h.ends h.room.heads h.room.up h.room.down h.room.tints h.room.marks
-  call-buildable k = rw k (buildable figures (omega arith) h false e)
+  pub call-buildable : {np n : ℕ} → np ≡ h.np → n ≡ h.np + h.ns
+      → Buildable figures np h.ns n h.items h.colours h.ends h.room.heads h.room.up h.room.down h.room.tints h.room.marks
+  call-buildable p k = rw (p, k) (buildable figures (omega arith) h false e)
 
   -- the rounds stop at an item: no result is written
   pub call-infeasible : {item cause round number : ℕ} {room : Room} → reduce a h.cap ≡ infeasible item cause round → number ≡ cause → room ≡ cleared h.room
@@ -107,7 +107,7 @@ module _ {h : Handed} (t : TakenIn h) where
   plan-items = refl
 
   -- the nodes are as the rounds left them
-  module _ (nodes : Nodes) (np-is : nodes.np ≡ h.np) (n-is : nodes.n ≡ h.np + h.ns) {s : State} {rounds : ℕ} {settled : Bool} {tints marks : List ℕ}
+  module _ (nodes : Nodes) (np-is : nodes.shape.np ≡ h.np) (n-is : nodes.shape.n ≡ h.np + h.ns) {s : State} {rounds : ℕ} {settled : Bool} {tints marks : List ℕ}
       (q : reduce a h.cap ≡ reduced s rounds settled) (H : Holding (plan_of a) s nodes.heads.now nodes.up.now nodes.down.now tints marks) where
     laid : NodesRead H.ground nodes tints
     laid = record {
@@ -140,6 +140,6 @@ module _ {h : Handed} (t : TakenIn h) where
 
     -- and is the outcome
     pub call-reduced : {said : Said} {room : Room} {results : Results}
-        → (said ≡ said_of nodes.np nodes.n (state_of H.ground) rounds settled) × (results ≡ fronts (results_of nodes.n (state_of H.ground)) h.results) → room ≡ cleared h.room
+        → (said ≡ said_of nodes.shape.np nodes.shape.n (state_of H.ground) rounds settled) × (results ≡ fronts (results_of nodes.shape.n (state_of H.ground)) h.results) → room ≡ cleared h.room
         → outcome said room results ≡ concluded h (reduce a h.cap)
     call-reduced o c = concludes-reduced h shown-is (o.0 ∙ rw (np-is, n-is) refl) c (o.1 ∙ rw n-is refl)

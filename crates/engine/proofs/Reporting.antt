@@ -37,7 +37,7 @@ results-fronts n s old e r = rw e (rw r.ends (rw r.numbers (rw r.items (rw r.col
 
 module _ {g : Ground} {nodes : Nodes} {tints : List ℕ} {lists : Results} (o : Reported g nodes tints lists) where
   -- what the writing of the kept items asks
-  pub report-items : (nodes.np ≤ nodes.n) × (nodes.n < node_bound) × (nodes.n < length nodes.heads.now) × (nodes.n ≤ length lists.kept)
+  pub report-items : (nodes.shape.np ≤ nodes.shape.n) × (nodes.shape.n < node_bound) × (nodes.shape.n < length nodes.heads.now) × (nodes.shape.n ≤ length lists.kept)
   report-items =
       let t = o.laid.standing.ready.tidy in
       let e = o.laid.standing.items-are in

@@ -1,5 +1,5 @@
 -- From the nodes as they are built to what the rounds find, in the words of the rules. Assumes nothing.
-use Prim.Native.Nat.{ℕ, ◌+◌, ◌≤◌}
+use Prim.Native.Nat.{ℕ, ◌≤◌}
 use native.Mathlib.Omega.{arith}
 use mathlib.Core.Path.{◌≡◌, refl, ◌∙◌, ap, sym, subst}
 use mathlib.Core.List.{List}
@@ -13,6 +13,7 @@ use Rattle.std.proofs.Common.{rules}
 use Rattle.rules.specs.Problem.{Problem, Figures, problem_of}
 use Rattle.rules.specs.Rounds.{Finding, infeasible, uncovered, unless_uncovered, rounds, reduce}
 use Rattle.rules.specs.Rounds.{start as starting}
+use Rattle.links.specs.declared.shape.Shape.{Shape}
 use Rattle.links.specs.Ground.{Ground}
 use Rattle.condemning.specs.Marks.{Known}
 use Rattle.showing.specs.Showing.{state_of}
@@ -73,11 +74,8 @@ module _ {f : Figures} {np ns n : ℕ} {items colours ends : List ℕ} {heads₀
     }
 
     -- what is asked where the nodes carry the figures
-    pub built-figured : {first m : ℕ} → first ≡ n + 2 → m ≡ np → Figured (plan_of a) first m
-    built-figured b e = record { begins = omega (arith, w.items, b); few = omega (arith, few, e) }
-
-    pub built-items : {k : ℕ} → k ≡ n → k ≡ (plan_of a).n
-    built-items e = e ∙ sym w.items
+    pub built-figured : {shape : Shape} → shape.np ≡ np → shape.n ≡ n → Figured (plan_of a) shape
+    built-figured {shape} e i = record { begins = omega (arith, w.items, shape.begins, i); few = omega (arith, few, e); items = i ∙ sym w.items }
 
     pub built-looking : {m : ℕ} → m ≡ np → Looking ground m heads
     built-looking e = record { ready = w.ready; few = omega (arith, few, e); heads-are = refl }

@@ -11,9 +11,9 @@ use Rattle.result.specs.Reading.{NodesRead, LongEnough}
 
 pub record Reported (g : Ground) (nodes : Nodes) (tints : List ℕ) (lists : Results) : Type 0 where
   pub laid : NodesRead g nodes tints
-  pub few : nodes.np ≤ nodes.n
-  pub kept-room : nodes.n ≤ length lists.kept
-  pub holding : LongEnough (results_of nodes.n (state_of g)) (out lists.ends lists.numbers lists.items lists.colours)
+  pub few : nodes.shape.np ≤ nodes.shape.n
+  pub kept-room : nodes.shape.n ≤ length lists.kept
+  pub holding : LongEnough (results_of nodes.shape.n (state_of g)) (out lists.ends lists.numbers lists.items lists.colours)
   -- the counts are numbers of 32 bits
-  pub options-small : length (kept_options nodes.n (state_of g)) < word_bound
-  pub entries-small : length (results_of nodes.n (state_of g)).items < word_bound
+  pub options-small : length (kept_options nodes.shape.n (state_of g)) < word_bound
+  pub entries-small : length (results_of nodes.shape.n (state_of g)).items < word_bound

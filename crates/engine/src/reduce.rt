@@ -12,6 +12,7 @@ ghost use Rattle.engine.specs.Call.{outcome};
 use crate::report::report;
 use crate::run::run;
 use links::nodes::Nodes;
+use links::shape::Shape;
 use room::clear_room::clear_room;
 use rules::answer::Answer;
 use rules::lent::{Lists, Results, Room};
@@ -32,16 +33,13 @@ pub fn reduce(
         ≡ concluded (handed_lists problem cap lists.now (room_in room.old) (results_in results.old))
         (reduce_of (problem_of problem.np problem.ns lists.now.items.now lists.now.colours.now lists.now.ends.now) cap) }
 {
-    let n = problem.n();
     let tints = &mut *room.tints;
     let marks = &mut *room.marks;
     let mut nodes = Nodes {
         heads: &mut *room.heads,
         up: &mut *room.up,
         down: &mut *room.down,
-        np: problem.np as usize,
-        n,
-        start: n + 2,
+        shape: Shape::of(problem),
     };
     let answer = match run(&mut nodes, &mut *tints, &mut *marks, cap, lists) {
         Ok(done) => report(&nodes, &*tints, done, results),

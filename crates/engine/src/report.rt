@@ -1,5 +1,5 @@
 // The result, from the nodes that the rounds left to the five result lists.
-ghost use Rattle.std.specs.Prelude.{◌≡◌, ℕ};
+ghost use Rattle.std.specs.Prelude.{◌≡◌};
 ghost use Rattle.rules.specs.Lent.{SameResults, results_in};
 ghost use Rattle.rules.specs.Outcome.{fronts, said_of};
 ghost use Rattle.rules.specs.Paper.{paper};
@@ -20,8 +20,8 @@ pub fn report(nodes: &Nodes, tints: &[u32], done: Done, results: &mut Results<u3
     requires { (g : Ground) × Reported g nodes.now tints.now (results_in results.old) }
     ensures lists { SameResults results.old results.new }
     ensures reported { (g : Ground) → Reported g nodes.now tints.now (results_in results.old)
-        → (paper result ≡ said_of nodes.now.np nodes.now.n (state_of g) done.rounds done.settled)
-        × (results_in results.new ≡ fronts (results_of nodes.now.n (state_of g)) (results_in results.old)) }
+        → (paper result ≡ said_of nodes.now.shape.np nodes.now.shape.n (state_of g) done.rounds done.settled)
+        × (results_in results.new ≡ fronts (results_of nodes.now.shape.n (state_of g)) (results_in results.old)) }
 {
     let counts = get_items(nodes, results.kept);
     let at = get_options(nodes, tints, results);

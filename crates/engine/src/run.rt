@@ -21,14 +21,14 @@ pub fn run(
     cap: u32,
     lists: &Lists,
 ) -> Result<Done, Infeasible>
-    requires { (f : Figures) × (ns : ℕ) × in_nodes (Buildable f nodes.old.np ns nodes.old.n lists.now.items.now lists.now.colours.now lists.now.ends.now)
+    requires { (f : Figures) × (ns : ℕ) × in_nodes (Buildable f nodes.old.shape.np ns nodes.old.shape.n lists.now.items.now lists.now.colours.now lists.now.ends.now)
         nodes.old tints.old marks.old }
     ensures nodes { SameNodes nodes.old nodes.new }
     ensures found { (f : Figures) (ns : ℕ)
-        → in_nodes (Buildable f nodes.old.np ns nodes.old.n lists.now.items.now lists.now.colours.now lists.now.ends.now)
+        → in_nodes (Buildable f nodes.old.shape.np ns nodes.old.shape.n lists.now.items.now lists.now.colours.now lists.now.ends.now)
         nodes.old tints.old marks.old
-        → in_nodes (Ended (plan_of (problem_of nodes.old.np ns lists.now.items.now lists.now.colours.now lists.now.ends.now))
-        (reduce_of (problem_of nodes.old.np ns lists.now.items.now lists.now.colours.now lists.now.ends.now) cap) result)
+        → in_nodes (Ended (plan_of (problem_of nodes.old.shape.np ns lists.now.items.now lists.now.colours.now lists.now.ends.now))
+        (reduce_of (problem_of nodes.old.shape.np ns lists.now.items.now lists.now.colours.now lists.now.ends.now) cap) result)
         nodes.new tints.new marks.new }
 {
     init_links(nodes, tints, marks, lists);

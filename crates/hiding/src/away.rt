@@ -13,7 +13,7 @@ pub fn hide_option(nodes: &mut Nodes, rr: usize, last: Option<usize>) -> Option<
     requires { (g : Ground) × Around g rr × in_nodes (Holds g) nodes.old }
     ensures nodes { SameNodes nodes.old nodes.new }
     ensures taken { (g : Ground) (z : ℕ) → last ≡ column z → Around g rr → in_nodes (Holds g) nodes.old
-        → (w : ℕ) × (result ≡ column w) × in_nodes (Taken g (others g rr) nodes.old.np z) nodes.new w }
+        → (w : ℕ) × (result ≡ column w) × in_nodes (Taken g (others g rr) nodes.old.shape.np z) nodes.new w }
 {
     let mut stack = last;
     let mut qq = rr + 1;
@@ -25,7 +25,7 @@ pub fn hide_option(nodes: &mut Nodes, rr: usize, last: Option<usize>) -> Option<
             Some(j) => {
                 nodes.unlink(qq);
                 let t = nodes.fewer(j);
-                if t == 0 && j <= nodes.np {
+                if t == 0 && j <= nodes.shape.np {
                     stack = Some(j);
                 }
                 qq += 1;
@@ -37,15 +37,15 @@ pub fn hide_option(nodes: &mut Nodes, rr: usize, last: Option<usize>) -> Option<
 
 // Hides item c (its column's number): every live option that holds c uncoloured loses its other entries; the last primary item so emptied, if there is one.
 pub fn hide(nodes: &mut Nodes, tints: &[u32], c: usize) -> Option<usize>
-    requires { (g : Ground) × Column g tints.now c nodes.old.start × in_nodes (Holds g) nodes.old }
+    requires { (g : Ground) × Column g tints.now c nodes.old.shape.start × in_nodes (Holds g) nodes.old }
     ensures nodes { SameNodes nodes.old nodes.new }
-    ensures taken { (g : Ground) → Column g tints.now c nodes.old.start → in_nodes (Holds g) nodes.old
-        → (w : ℕ) × (result ≡ column w) × in_nodes (Taken g (hides g c) nodes.old.np 0) nodes.new w }
+    ensures taken { (g : Ground) → Column g tints.now c nodes.old.shape.start → in_nodes (Holds g) nodes.old
+        → (w : ℕ) × (result ≡ column w) × in_nodes (Taken g (hides g c) nodes.old.shape.np 0) nodes.new w }
 {
     let mut stack = None;
     let mut rr = nodes.below(c);
     // down the column's links
-    while rr >= nodes.start {
+    while rr >= nodes.shape.start {
         // 0 is no colour, as C lends the list
         if tints[rr] == 0 {
             stack = hide_option(nodes, rr, stack);

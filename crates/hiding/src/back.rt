@@ -33,14 +33,14 @@ pub fn unhide_option(nodes: &mut Nodes, rr: usize)
 
 // Undoes `hide`: all three lists are as they were before it.
 pub fn unhide(nodes: &mut Nodes, tints: &[u32], c: usize)
-    requires { (g : Ground) × Column g tints.now c nodes.old.start × in_nodes (Holds (taken g (hides g c))) nodes.old }
+    requires { (g : Ground) × Column g tints.now c nodes.old.shape.start × in_nodes (Holds (taken g (hides g c))) nodes.old }
     ensures nodes { SameNodes nodes.old nodes.new }
-    ensures back { (g : Ground) → Column g tints.now c nodes.old.start → in_nodes (Holds (taken g (hides g c))) nodes.old
+    ensures back { (g : Ground) → Column g tints.now c nodes.old.shape.start → in_nodes (Holds (taken g (hides g c))) nodes.old
         → in_nodes (Holds g) nodes.new }
 {
     let mut rr = nodes.below(c);
     // down the column's links
-    while rr >= nodes.start {
+    while rr >= nodes.shape.start {
         // 0 is no colour, as C lends the list
         if tints[rr] == 0 {
             unhide_option(nodes, rr);

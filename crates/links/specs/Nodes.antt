@@ -1,4 +1,4 @@
--- The nodes as they are lent: three lists and three figures. What a definition says of lists, said of nodes; and that a function leaves the
+-- The nodes as they are lent: three lists and the shape of the problem. What a definition says of lists, said of nodes; and that a function leaves the
 -- nodes the same ones, whatever it writes in them. Assumes nothing.
 use Rattle.std.specs.Prelude.{ℕ, zero, suc, ◌≡◌, List, length, ℤ, pos, negsuc, Option, Some, None}
 use Rattle.rules.specs.declared.number.Opt.{Opt}
@@ -8,7 +8,7 @@ use Rattle.links.specs.declared.nodes.Nodes.{Nodes}
 abbrev pub in_nodes : {A : Type 1} → (List ℤ → List ℕ → List ℕ → A) → Nodes → A
 in_nodes say nodes = say nodes.heads.now nodes.up.now nodes.down.now
 
--- b is what a became: the same three lists, as long as they were, and the same figures
+-- b is what a became: the same three lists, as long as they were, and the same shape
 pub record SameNodes (a b : Nodes) : Type 0 where
   pub heads : b.heads.ghost_name ≡ a.heads.ghost_name
   pub up : b.up.ghost_name ≡ a.up.ghost_name
@@ -16,9 +16,7 @@ pub record SameNodes (a b : Nodes) : Type 0 where
   pub heads-long : length b.heads.now ≡ length a.heads.now
   pub up-long : length b.up.now ≡ length a.up.now
   pub down-long : length b.down.now ≡ length a.down.now
-  pub np : b.np ≡ a.np
-  pub n : b.n ≡ a.n
-  pub start : b.start ≡ a.start
+  pub shape : b.shape ≡ a.shape
 
 -- what they hold is what they held
 abbrev pub Untouched : Nodes → Nodes → Type 0

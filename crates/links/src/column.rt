@@ -1,6 +1,6 @@
 // Columns: an entry is taken out, and put back, with the length of its column. A column's length is counted on its head itself, which isn't
 // below 0, so that no test stands in the loops that count.
-ghost use Rattle.std.specs.Prelude.{◌≡◌, ℕ, ◌+◌, ◌-◌, ◌<◌, length, set, ℤ, pos};
+ghost use Rattle.std.specs.Prelude.{◌≡◌, ◌+◌, ◌-◌, ◌<◌, length, set, pos};
 ghost use Rattle.rules.specs.Bounds.{node_bound};
 ghost use Rattle.links.specs.Head.{item_of, head, Growing};
 ghost use Rattle.links.specs.Column.{at, cut_up, cut_down, tie_up, tie_down};

@@ -1,5 +1,5 @@
 // Is an entry the first live one of its option? A walk back over shortened entries.
-ghost use Rattle.std.specs.Prelude.{◌≡◌, ℕ};
+
 ghost use Rattle.links.specs.Ground.{Ground};
 ghost use Rattle.links.specs.Lead.{Led, Leads};
 

@@ -14,3 +14,4 @@ pub mod emptied;
 pub mod item;
 pub mod lead;
 pub mod nodes;
+pub mod shape;

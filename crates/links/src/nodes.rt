@@ -2,11 +2,12 @@
 // only reads them takes a `&`, and so leaves them as they are. What the lists hold is said by the clauses, over a ground, and not by a ghost field: between
 // `unlink` and `fewer` they hold no tidy ground, and a call tells how the ground changes. Each function that is lent them to write in says that
 // they stay the same lists (`SameNodes`), since its caller would else know nothing of its own.
-ghost use Rattle.std.specs.Prelude.{◌≡◌, ◌+◌, false, ℕ, ◌<◌, eqb, length, set, ℤ, pos, negsuc};
+ghost use Rattle.std.specs.Prelude.{◌≡◌, false, ◌<◌, eqb, length, set, pos, negsuc};
 ghost use Rattle.rules.specs.Bounds.{node_bound, word_bound};
 ghost use Rattle.links.specs.Head.{item_of, zero_head, below_zero, head};
 ghost use Rattle.links.specs.Column.{at};
 
+use crate::shape::Shape;
 use rules::number::Opt;
 
 #[derive(Drop)]
@@ -15,11 +16,7 @@ pub struct Nodes<'a> {
     pub heads: &'a mut [i32],
     pub up: &'a mut [u32],
     pub down: &'a mut [u32],
-    // how many items are primary, which is the last primary column; how many there are; and the first node behind the headers
-    pub np: usize,
-    pub n: usize,
-    pub start: usize,
-    ghost begins: { start ≡ n + 2 },
+    pub shape: Shape,
 }
 
 // What a node says.

@@ -16,6 +16,7 @@ use Rattle.rules.specs.Paper.{cause_number}
 use Rattle.rules.specs.Lists.{from}
 use Rattle.rules.specs.State.{State, Step, went, in_live}
 use Rattle.rules.specs.Rounds.{Finding, item_step, item_steps, round, after_round, rounds}
+use Rattle.links.specs.declared.shape.Shape.{Shape}
 use Rattle.links.specs.Head.{item_of, head}
 use Rattle.links.specs.Plan.{Plan, Header}
 use Rattle.links.specs.Ground.{Ground}
@@ -45,21 +46,21 @@ round-begin {g} np n s = record {
   rest = round-steps np n (state_of g) ∙ (let e : n ≡ n - 0 = omega arith in ap (λ (k : ℕ). item_steps np (from 0 k) (state_of g) false) e);
 }
 
-module _ {P : Plan} {first np n : ℕ} (f : Figured P first np) (m : n ≡ P.n) where
-  module _ {total : Step} {i : ℕ} {removed : Bool} {heads : List ℤ} {up down tints marks : List ℕ} (G : RoundAt P total np n i removed heads up down tints marks) where
+module _ {P : Plan} {shape : Shape} (f : Figured P shape) where
+  module _ {total : Step} {i : ℕ} {removed : Bool} {heads : List ℤ} {up down tints marks : List ℕ} (G : RoundAt P total shape.np shape.n i removed heads up down tints marks) where
     -- at the end nothing is left
-    pub round-end : n ≤ i → Stepped P total (Ok removed) heads up down tints marks
+    pub round-end : shape.n ≤ i → Stepped P total (Ok removed) heads up down tints marks
     round-end l = record {
       stops = tt;
-      goes = (G.state, G.rest ∙ (let e : n - i ≡ 0 = omega arith in ap (λ (k : ℕ). item_steps np (from i k) G.state removed) e) ∙ steps-done np G.state removed, G.holding);
+      goes = (G.state, G.rest ∙ (let e : shape.n - i ≡ 0 = omega arith in ap (λ (k : ℕ). item_steps shape.np (from i k) G.state removed) e) ∙ steps-done shape.np G.state removed, G.holding);
     }
 
-    module _ (l : i < n) where
-      pub round-figured : Figured G.holding.ground.plan first np
-      round-figured = subst (λ (X : Plan). Figured X first np) (sym G.holding.plan) f
+    module _ (l : i < shape.n) where
+      pub round-figured : Figured G.holding.ground.plan shape
+      round-figured = subst (λ (X : Plan). Figured X shape) (sym G.holding.plan) f
 
       pub round-header : Header G.holding.ground.plan (i + 1)
-      round-header = subst (λ (X : Plan). Header X (i + 1)) (sym G.holding.plan) (record { above = omega arith; below = omega (arith, m) })
+      round-header = subst (λ (X : Plan). Header X (i + 1)) (sym G.holding.plan) (record { above = omega arith; below = omega (arith, f.items) })
 
       pub round-standing : Standing G.holding.ground heads up down tints marks
       round-standing = G.holding.standing
@@ -74,10 +75,10 @@ module _ {P : Plan} {first np n : ℕ} (f : Figured P first np) (m : n ≡ P.n) 
       round-small = let w = G.holding.standing in
           omega (arith, header-before G.holding.ground.plan w.ready.tidy.planned (i + 1) round-header, w.ready.tidy.planned.room, w.ready.tidy.planned.small)
 
-      one_more : total ≡ item_steps np (i ∷ from (i + 1) (n - (i + 1))) G.state removed
+      one_more : total ≡ item_steps shape.np (i ∷ from (i + 1) (shape.n - (i + 1))) G.state removed
       one_more =
-          let e : n - i ≡ suc (n - (i + 1)) = omega arith in
-          G.rest ∙ ap (λ (k : ℕ). item_steps np (from i k) G.state removed) e ∙ ap (λ (k : ℕ). item_steps np (i ∷ from k (n - (i + 1))) G.state removed) (sym (add-one i))
+          let e : shape.n - i ≡ suc (shape.n - (i + 1)) = omega arith in
+          G.rest ∙ ap (λ (k : ℕ). item_steps shape.np (from i k) G.state removed) e ∙ ap (λ (k : ℕ). item_steps shape.np (i ∷ from k (shape.n - (i + 1))) G.state removed) (sym (add-one i))
 
       live-is : in_live i G.state ≡ ltb 0 (item_of (head heads (i + 1)))
       live-is =
@@ -87,11 +88,11 @@ module _ {P : Plan} {first np n : ℕ} (f : Figured P first np) (m : n ≡ P.n) 
           ∙ ap (λ (x : List ℤ). ltb 0 (item_of (head x (i + 1)))) (sym w.holds.heads-are)
 
       -- an item in no option is passed over
-      pub round-over : item_of (head heads (i + 1)) ≡ 0 → RoundAt P total np n (i + 1) removed heads up down tints marks
+      pub round-over : item_of (head heads (i + 1)) ≡ 0 → RoundAt P total shape.np shape.n (i + 1) removed heads up down tints marks
       round-over z = record {
         state = G.state;
         holding = G.holding;
-        rest = one_more ∙ steps-over np i (from (i + 1) (n - (i + 1))) G.state removed (live-is ∙ le-ltb 0 (item_of (head heads (i + 1))) (omega arith));
+        rest = one_more ∙ steps-over shape.np i (from (i + 1) (shape.n - (i + 1))) G.state removed (live-is ∙ le-ltb 0 (item_of (head heads (i + 1))) (omega arith));
       }
 
       -- any other takes its step
@@ -99,26 +100,26 @@ module _ {P : Plan} {first np n : ℕ} (f : Figured P first np) (m : n ≡ P.n) 
         live : in_live i G.state ≡ true
         live = live-is ∙ lt-ltb 0 (item_of (head heads (i + 1))) (omega arith)
 
-        same_step : item_step np i G.state ≡ item_step np i (state_of G.holding.ground)
-        same_step = ap (item_step np i) (sym G.holding.shows)
+        same_step : item_step shape.np i G.state ≡ item_step shape.np i (state_of G.holding.ground)
+        same_step = ap (item_step shape.np i) (sym G.holding.shows)
 
         pub round-stop : {stop : Stop} {heads' : List ℤ} {up' down' tints' marks' : List ℕ}
-            → Stepped G.holding.ground.plan (item_step np i (state_of G.holding.ground)) (Err stop) heads' up' down' tints' marks'
+            → Stepped G.holding.ground.plan (item_step shape.np i (state_of G.holding.ground)) (Err stop) heads' up' down' tints' marks'
             → Stepped P total (Err stop) heads' up' down' tints' marks'
         round-stop {stop} t = record {
-          stops = one_more ∙ steps-emptied np i (from (i + 1) (n - (i + 1))) G.state removed stop.item.0 (cause_number stop.cause) live (same_step ∙ t.stops);
+          stops = one_more ∙ steps-emptied shape.np i (from (i + 1) (shape.n - (i + 1))) G.state removed stop.item.0 (cause_number stop.cause) live (same_step ∙ t.stops);
           goes = tt;
         }
 
         pub round-next : {more : Bool} {heads' : List ℤ} {up' down' tints' marks' : List ℕ}
-            → Stepped G.holding.ground.plan (item_step np i (state_of G.holding.ground)) (Ok more) heads' up' down' tints' marks'
-            → RoundAt P total np n (i + 1) (removed || more) heads' up' down' tints' marks'
+            → Stepped G.holding.ground.plan (item_step shape.np i (state_of G.holding.ground)) (Ok more) heads' up' down' tints' marks'
+            → RoundAt P total shape.np shape.n (i + 1) (removed || more) heads' up' down' tints' marks'
         round-next {more} t =
             let w = goes-plan G.holding.plan t.goes in
             record {
               state = w.0;
               holding = w.2;
-              rest = one_more ∙ steps-went np i (from (i + 1) (n - (i + 1))) G.state w.0 removed more live (same_step ∙ w.1);
+              rest = one_more ∙ steps-went shape.np i (from (i + 1) (shape.n - (i + 1))) G.state w.0 removed more live (same_step ∙ w.1);
             }
 
 -- The rounds are at round r: the lists hold the state, and the rest is the rules' rest.
@@ -135,40 +136,38 @@ rounds-begin {g} np n cap s = record {
   rest = let e : cap ≡ cap - 0 = omega arith in ap (λ (k : ℕ). rounds np n k 0 (state_of g)) e;
 }
 
-module _ {P : Plan} {first np n : ℕ} (f : Figured P first np) (m : n ≡ P.n) (cap : ℕ) where
-  module _ {total : Finding} {r : ℕ} {heads : List ℤ} {up down tints marks : List ℕ} (G : Turning P total np n cap r heads up down tints marks) where
+module _ {P : Plan} {shape : Shape} (f : Figured P shape) (cap : ℕ) where
+  module _ {total : Finding} {r : ℕ} {heads : List ℤ} {up down tints marks : List ℕ} (G : Turning P total shape.np shape.n cap r heads up down tints marks) where
     -- the cap is reached
     pub rounds-end : {ran : ℕ} → cap ≤ r → ran ≡ r → Ended P total (Ok (record { rounds = ran; settled = false })) heads up down tints marks
     rounds-end l a = rw a (record {
       stops = tt;
-      goes = (G.state, G.rest ∙ (let e : cap - r ≡ 0 = omega arith in ap (λ (k : ℕ). rounds np n k r G.state) e) ∙ rounds-done np n r G.state, G.holding);
+      goes = (G.state, G.rest ∙ (let e : cap - r ≡ 0 = omega arith in ap (λ (k : ℕ). rounds shape.np shape.n k r G.state) e) ∙ rounds-done shape.np shape.n r G.state, G.holding);
     })
 
-    pub rounds-figured : Figured G.holding.ground.plan first np
-    rounds-figured = subst (λ (X : Plan). Figured X first np) (sym G.holding.plan) f
-
-    pub rounds-items : n ≡ G.holding.ground.plan.n
-    rounds-items = m ∙ ap (λ (X : Plan). X.n) (sym G.holding.plan)
+    pub rounds-figured : Figured G.holding.ground.plan shape
+    rounds-figured = subst (λ (X : Plan). Figured X shape) (sym G.holding.plan) f
 
     module _ (l : r < cap) where
-      turn_more : {x : Step} → round np n (state_of G.holding.ground) ≡ x → total ≡ after_round x (r + 1) (λ s'. rounds np n (cap - (r + 1)) (r + 1) s')
+      turn_more : {x : Step} → round shape.np shape.n (state_of G.holding.ground) ≡ x → total ≡ after_round x (r + 1) (λ s'. rounds shape.np shape.n (cap - (r + 1)) (r + 1) s')
       turn_more {x} q =
           let e : cap - r ≡ suc (cap - (r + 1)) = omega arith in
           G.rest
-          ∙ ap (λ (k : ℕ). rounds np n k r G.state) e
-          ∙ rounds-after np n (cap - (r + 1)) r G.state (ap (round np n) (sym G.holding.shows) ∙ q)
-          ∙ ap (λ (k : ℕ). after_round x k (λ s'. rounds np n (cap - (r + 1)) k s')) (sym (add-one r))
+          ∙ ap (λ (k : ℕ). rounds shape.np shape.n k r G.state) e
+          ∙ rounds-after shape.np shape.n (cap - (r + 1)) r G.state (ap (round shape.np shape.n) (sym G.holding.shows) ∙ q)
+          ∙ ap (λ (k : ℕ). after_round x k (λ s'. rounds shape.np shape.n (cap - (r + 1)) k s')) (sym (add-one r))
 
       pub rounds-stop : {stop : Stop} {heads' : List ℤ} {up' down' tints' marks' : List ℕ}
-          → Stepped G.holding.ground.plan (round np n (state_of G.holding.ground)) (Err stop) heads' up' down' tints' marks'
+          → Stepped G.holding.ground.plan (round shape.np shape.n (state_of G.holding.ground)) (Err stop) heads' up' down' tints' marks'
           → Ended P total (Err (record { item = stop.item; cause = stop.cause; round = r + 1 })) heads' up' down' tints' marks'
       rounds-stop t = record { stops = turn_more t.stops; goes = tt }
 
       pub rounds-settled : {heads' : List ℤ} {up' down' tints' marks' : List ℕ}
-          → Stepped G.holding.ground.plan (round np n (state_of G.holding.ground)) (Ok false) heads' up' down' tints' marks'
+          → Stepped G.holding.ground.plan (round shape.np shape.n (state_of G.holding.ground)) (Ok false) heads' up' down' tints' marks'
           → Ended P total (Ok (record { rounds = r + 1; settled = true })) heads' up' down' tints' marks'
       rounds-settled t = let w = goes-plan G.holding.plan t.goes in record { stops = tt; goes = (w.0, turn_more w.1, w.2) }
 
-      pub rounds-next : {heads' : List ℤ} {up' down' tints' marks' : List ℕ} → Stepped G.holding.ground.plan (round np n (state_of G.holding.ground)) (Ok true) heads' up' down' tints' marks'
-          → Turning P total np n cap (r + 1) heads' up' down' tints' marks'
+      pub rounds-next : {heads' : List ℤ} {up' down' tints' marks' : List ℕ}
+          → Stepped G.holding.ground.plan (round shape.np shape.n (state_of G.holding.ground)) (Ok true) heads' up' down' tints' marks'
+          → Turning P total shape.np shape.n cap (r + 1) heads' up' down' tints' marks'
       rounds-next t = let w = goes-plan G.holding.plan t.goes in record { state = w.0; holding = w.2; rest = turn_more w.1 }

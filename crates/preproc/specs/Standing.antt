@@ -6,6 +6,7 @@ use Rattle.rules.specs.declared.number.Item.{Item}
 use Rattle.rules.specs.Paper.{cause_number}
 use Rattle.rules.specs.State.{State, Step, went, emptied}
 use Rattle.rules.specs.Rounds.{Finding, reduced, infeasible}
+use Rattle.links.specs.declared.shape.Shape.{Shape}
 use Rattle.links.specs.Plan.{Plan, start}
 use Rattle.links.specs.Ground.{Ground, Holds}
 use Rattle.links.specs.Shown.{Ready, Tinted}
@@ -22,10 +23,11 @@ pub record Standing (g : Ground) (heads : List ℤ) (up down tints marks : List 
   pub known : Known g g.on marks
   pub holds : Holds g heads up down
 
--- the figures that the nodes tell: the first node behind the headers, and the count of primary items
-pub record Figured (P : Plan) (first np : ℕ) : Type 0 where
-  pub begins : first ≡ start P
-  pub few : np ≤ P.n
+-- the shape that the nodes tell is the plan's
+pub record Figured (P : Plan) (shape : Shape) : Type 0 where
+  pub begins : shape.start ≡ start P
+  pub few : shape.np ≤ P.n
+  pub items : shape.n ≡ P.n
 
 -- The lists hold a ground of the same plan, which shows the state s.
 pub record Holding (P : Plan) (s : State) (heads : List ℤ) (up down tints marks : List ℕ) : Type 0 where

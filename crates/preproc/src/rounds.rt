@@ -1,5 +1,5 @@
 // A round, and the rounds under a cap.
-ghost use Rattle.std.specs.Prelude.{◌≡◌, ℕ};
+ghost use Rattle.std.specs.Prelude.{◌≡◌};
 ghost use Rattle.rules.specs.Rounds.{uncovered as uncovered_in, round as round_of, rounds as rounds_of};
 ghost use Rattle.links.specs.Ground.{Ground};
 ghost use Rattle.links.specs.Nodes.{in_nodes, SameNodes};
@@ -30,25 +30,25 @@ pub struct Infeasible {
 
 // The lowest primary item that is in no option.
 pub fn uncovered(nodes: &Nodes) -> Option<Item>
-    requires { (g : Ground) × Looking g nodes.now.np nodes.now.heads.now }
-    ensures { (g : Ground) → Looking g nodes.now.np nodes.now.heads.now → result ≡ item_told (uncovered_in nodes.now.np (state_of g)) }
+    requires { (g : Ground) × Looking g nodes.now.shape.np nodes.now.heads.now }
+    ensures { (g : Ground) → Looking g nodes.now.shape.np nodes.now.heads.now → result ≡ item_told (uncovered_in nodes.now.shape.np (state_of g)) }
 {
     // half open, since the library's law on `find` is of such ranges
-    let c = (1..nodes.np + 1).find(|c| nodes.is_empty(*c))?;
+    let c = (1..nodes.shape.np + 1).find(|c| nodes.is_empty(*c))?;
     Some(item_of_column(c))
 }
 
 // Items upward, each one whose column is not empty then. Whether anything was removed.
 pub fn round(nodes: &mut Nodes, tints: &mut [u32], marks: &mut [u32]) -> Result<bool, Stop>
     requires { (g : Ground) × in_nodes (Standing g) nodes.old tints.old marks.old
-        × Figured g.plan nodes.old.start nodes.old.np × (nodes.old.n ≡ g.plan.n) }
+        × Figured g.plan nodes.old.shape }
     ensures nodes { SameNodes nodes.old nodes.new }
     ensures round { (g : Ground) → in_nodes (Standing g) nodes.old tints.old marks.old
-        → Figured g.plan nodes.old.start nodes.old.np → nodes.old.n ≡ g.plan.n
-        → in_nodes (Stepped g.plan (round_of nodes.old.np nodes.old.n (state_of g)) result) nodes.new tints.new marks.new }
+        → Figured g.plan nodes.old.shape
+        → in_nodes (Stepped g.plan (round_of nodes.old.shape.np nodes.old.shape.n (state_of g)) result) nodes.new tints.new marks.new }
 {
     let mut removed = false;
-    for number in 0..nodes.n as u32 {
+    for number in 0..nodes.shape.n as u32 {
         let item = Item(number);
         if !nodes.is_empty(column_of(item)) {
             removed |= reduce_options(nodes, tints, marks, item)?;
@@ -65,11 +65,11 @@ pub fn rounds(
     cap: u32,
 ) -> Result<Done, Infeasible>
     requires { (g : Ground) × in_nodes (Standing g) nodes.old tints.old marks.old
-        × Figured g.plan nodes.old.start nodes.old.np × (nodes.old.n ≡ g.plan.n) }
+        × Figured g.plan nodes.old.shape }
     ensures nodes { SameNodes nodes.old nodes.new }
     ensures rounds { (g : Ground) → in_nodes (Standing g) nodes.old tints.old marks.old
-        → Figured g.plan nodes.old.start nodes.old.np → nodes.old.n ≡ g.plan.n
-        → in_nodes (Ended g.plan (rounds_of nodes.old.np nodes.old.n cap 0 (state_of g)) result) nodes.new tints.new marks.new }
+        → Figured g.plan nodes.old.shape
+        → in_nodes (Ended g.plan (rounds_of nodes.old.shape.np nodes.old.shape.n cap 0 (state_of g)) result) nodes.new tints.new marks.new }
 {
     for run in 0..cap {
         // the three ends of a round, side by side

@@ -26,11 +26,11 @@ pub fn reduce_options(
     item: Item,
 ) -> Result<bool, Stop>
     requires { (g : Ground) × in_nodes (Standing g) nodes.old tints.old marks.old
-        × Figured g.plan nodes.old.start nodes.old.np × Header g.plan (item.0 + 1) }
+        × Figured g.plan nodes.old.shape × Header g.plan (item.0 + 1) }
     ensures nodes { SameNodes nodes.old nodes.new }
     ensures step { (g : Ground) → in_nodes (Standing g) nodes.old tints.old marks.old
-        → Figured g.plan nodes.old.start nodes.old.np → Header g.plan (item.0 + 1)
-        → in_nodes (Stepped g.plan (item_step nodes.old.np item.0 (state_of g)) result) nodes.new tints.new marks.new }
+        → Figured g.plan nodes.old.shape → Header g.plan (item.0 + 1)
+        → in_nodes (Stepped g.plan (item_step nodes.old.shape.np item.0 (state_of g)) result) nodes.new tints.new marks.new }
 {
     let c = column_of(item);
     if let Some(p) = hide(nodes, tints, c) {

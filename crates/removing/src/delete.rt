@@ -1,5 +1,5 @@
 // Deleting an option: all its entries leave their columns, and the answer is the first primary item that loses its last option.
-ghost use Rattle.std.specs.Prelude.{◌≡◌, List, [], ◌∷◌, ◌++◌, ℕ};
+ghost use Rattle.std.specs.Prelude.{◌≡◌, [], ◌∷◌, ◌++◌, ℕ};
 ghost use Rattle.links.specs.Ending.{ending};
 ghost use Rattle.links.specs.Ground.{Ground, Within};
 ghost use Rattle.links.specs.Nodes.{in_nodes, SameNodes};
@@ -15,12 +15,12 @@ pub fn take_out(nodes: &mut Nodes, x: usize) -> Result<(), Emptied>
     requires { (g : Ground) × in_nodes (Sitting g x) nodes.old }
     ensures nodes { SameNodes nodes.old nodes.new }
     ensures deleted { (g : Ground) → in_nodes (Sitting g x) nodes.old
-        → (z : ℕ) × (result ≡ ending z) × in_nodes (Deleted g nodes.old.np (x ∷ [])) nodes.new z }
+        → (z : ℕ) × (result ≡ ending z) × in_nodes (Deleted g nodes.old.shape.np (x ∷ [])) nodes.new z }
 {
     // the head of an entry that isn't shortened is its column
     let i = nodes.column_at(x);
     nodes.unlink(x);
-    if nodes.fewer(i) == 0 && i <= nodes.np {
+    if nodes.fewer(i) == 0 && i <= nodes.shape.np {
         return Err(Emptied {
             item: item_of_column(i),
         });
@@ -34,7 +34,7 @@ pub fn delete_others(nodes: &mut Nodes, r: usize) -> Result<(), Emptied>
     requires { (g : Ground) × in_nodes (Deleting g r) nodes.old }
     ensures nodes { SameNodes nodes.old nodes.new }
     ensures deleted { (g : Ground) → in_nodes (Deleting g r) nodes.old
-        → (z : ℕ) × (result ≡ ending z) × in_nodes (Deleted g nodes.old.np (others g r)) nodes.new z }
+        → (z : ℕ) × (result ≡ ending z) × in_nodes (Deleted g nodes.old.shape.np (others g r)) nodes.new z }
 {
     let mut ended = Ok(());
     let mut q = r + 1;
@@ -58,7 +58,7 @@ pub fn really_delete_option(nodes: &mut Nodes, r: usize) -> Result<(), Emptied>
     requires { (g : Ground) × in_nodes (Deleting g r) nodes.old × Within g r }
     ensures nodes { SameNodes nodes.old nodes.new }
     ensures deleted { (g : Ground) → in_nodes (Deleting g r) nodes.old → Within g r
-        → (z : ℕ) × (result ≡ ending z) × in_nodes (Deleted g nodes.old.np (others g r ++ (r ∷ []))) nodes.new z }
+        → (z : ℕ) × (result ≡ ending z) × in_nodes (Deleted g nodes.old.shape.np (others g r ++ (r ∷ []))) nodes.new z }
 {
     let others = delete_others(nodes, r);
     let own = take_out(nodes, r);

@@ -1,10 +1,9 @@
 // Removing an item: each option that holds it is deleted or shortened, and its column is empty then.
-ghost use Rattle.std.specs.Prelude.{◌≡◌, List, [], ◌∷◌, ℕ, ◌+◌, ◌-◌, ◌<◌, length, set, ℤ, pos};
+ghost use Rattle.std.specs.Prelude.{◌≡◌, ℕ, ◌+◌, ◌-◌, ◌<◌, length, set, pos};
 ghost use Rattle.rules.specs.Bounds.{node_bound};
 ghost use Rattle.links.specs.Ending.{ending};
 ghost use Rattle.links.specs.Ground.{Ground};
 ghost use Rattle.links.specs.Nodes.{in_nodes, SameNodes};
-ghost use Rattle.links.specs.Row.{others};
 ghost use Rattle.removing.specs.Deleting.{Deleting};
 ghost use Rattle.removing.specs.Removing.{Walking, holds_other, Dropped, Removing, Removed};
 
@@ -52,7 +51,7 @@ pub fn delete_or_shorten(nodes: &mut Nodes, r: usize, p: usize) -> Result<(), Em
     requires { (g : Ground) × in_nodes (Deleting g r) nodes.old }
     ensures nodes { SameNodes nodes.old nodes.new }
     ensures dropped { (g : Ground) → in_nodes (Deleting g r) nodes.old
-        → (z : ℕ) × (result ≡ ending z) × in_nodes (Dropped g nodes.old.np r p) nodes.new z }
+        → (z : ℕ) × (result ≡ ending z) × in_nodes (Dropped g nodes.old.shape.np r p) nodes.new z }
 {
     if !holds_item(nodes, r, p) {
         return delete_others(nodes, r);
@@ -77,14 +76,14 @@ pub fn clear_column(nodes: &mut Nodes, c: usize)
 // Removes item c (its column), redundant for p: options that hold c lose it where they hold p, and are deleted where not, each to its end, until a
 // primary item is emptied.
 pub fn remove_item(nodes: &mut Nodes, c: usize, p: usize) -> Result<(), Emptied>
-    requires { (g : Ground) × in_nodes (Removing g c p nodes.old.start) nodes.old }
+    requires { (g : Ground) × in_nodes (Removing g c p nodes.old.shape.start) nodes.old }
     ensures nodes { SameNodes nodes.old nodes.new }
-    ensures removed { (g : Ground) → in_nodes (Removing g c p nodes.old.start) nodes.old
-        → (z : ℕ) × (result ≡ ending z) × in_nodes (Removed g c p nodes.old.np) nodes.new z }
+    ensures removed { (g : Ground) → in_nodes (Removing g c p nodes.old.shape.start) nodes.old
+        → (z : ℕ) × (result ≡ ending z) × in_nodes (Removed g c p nodes.old.shape.np) nodes.new z }
 {
     let mut r = nodes.below(c);
     // down the column's links
-    while r >= nodes.start {
+    while r >= nodes.shape.start {
         // shortening changes r's own links
         let next = nodes.below(r);
         delete_or_shorten(nodes, r, p)?;

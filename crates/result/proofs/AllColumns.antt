@@ -45,11 +45,11 @@ module _ {g : Ground} {nodes : Nodes} {tints : List ℕ} (a : NodesRead g nodes 
   ready : Ready g
   ready = a.standing.ready
 
-  header : (c : ℕ) → c < nodes.n → Header g.plan (c + 1)
+  header : (c : ℕ) → c < nodes.shape.n → Header g.plan (c + 1)
   header c h = record { above = omega arith; below = omega (arith, a.standing.items-are) }
 
   -- in an empty column no option is met
-  column-empty : (c : ℕ) → c < nodes.n → item_of (head nodes.heads.now (c + 1)) ≡ 0 → column_options g (c + 1) ≡ []
+  column-empty : (c : ℕ) → c < nodes.shape.n → item_of (head nodes.heads.now (c + 1)) ≡ 0 → column_options g (c + 1) ≡ []
   unfolding column_to
   column-empty c h z =
       ap (map (option_from g)) (keep-none (lead_at g (c + 1)) (span (start g.plan) g.plan.N) (λ y m. not_T (lead_at g (c + 1) y) (none y)))
@@ -65,17 +65,17 @@ module _ {g : Ground} {nodes : Nodes} {tints : List ℕ} (a : NodesRead g nodes 
           let s = tally-some g.plan g.on y (entry-from g.plan ready.tidy.planned y w.0) (entry-till g.plan ready.tidy.planned y w.0) w.1 in
           omega (arith, s, ap (tally g.plan g.on) w.2, empty)
 
-  module _ {old : FourLists} (k : LongEnough (results_of nodes.n (shown g.plan g.on)) old) where
+  module _ {old : FourLists} (k : LongEnough (results_of nodes.shape.n (shown g.plan g.on)) old) where
     -- there is room for all
-    room : Suffices old (options_to g nodes.n)
+    room : Suffices old (options_to g nodes.shape.n)
     unfolding results_of
     room =
-        subst (λ (l : List Numbered). Suffices old l) (sym (options-kept g ready nodes.n)) (record {
-          ends = omega (arith, k.ends, length-ends 0 (kept_options nodes.n (shown g.plan g.on)));
-          numbers = omega (arith, k.numbers, length-numbers (kept_options nodes.n (shown g.plan g.on)));
+        subst (λ (l : List Numbered). Suffices old l) (sym (options-kept g ready nodes.shape.n)) (record {
+          ends = omega (arith, k.ends, length-ends 0 (kept_options nodes.shape.n (shown g.plan g.on)));
+          numbers = omega (arith, k.numbers, length-numbers (kept_options nodes.shape.n (shown g.plan g.on)));
           items = k.items;
-          colours = omega (arith, k.colours, length-colours (kept_options nodes.n (shown g.plan g.on)));
-          small = omega (arith, kept-most g ready nodes.n, ready.tidy.planned.small);
+          colours = omega (arith, k.colours, length-colours (kept_options nodes.shape.n (shown g.plan g.on)));
+          small = omega (arith, kept-most g ready nodes.shape.n, ready.tidy.planned.small);
         })
 
     pub all-begins : Written old old (options_to g 0) 0 0
@@ -84,37 +84,37 @@ module _ {g : Ground} {nodes : Nodes} {tints : List ℕ} (a : NodesRead g nodes 
 
     module _ {lists : FourLists} {o e c : ℕ} (w : Written old lists (options_to g c) o e) where
       -- an empty column
-      pub all-over : c < nodes.n → eqb (item_of (head nodes.heads.now (c + 1))) 0 ≡ true → Written old lists (options_to g (c + 1)) o e
+      pub all-over : c < nodes.shape.n → eqb (item_of (head nodes.heads.now (c + 1))) 0 ≡ true → Written old lists (options_to g (c + 1)) o e
       all-over h z =
           subst (λ (l : List Numbered). Written old lists l o e)
           (sym (options-one g c ∙ ap (λ (l : List Numbered). options_to g c ++ l) (column-empty c h (eqb-true (item_of (head nodes.heads.now (c + 1))) 0 z)) ∙ append-nil (options_to g c))) w
 
       -- another
-      pub all-column : c < nodes.n → ColumnAt g old lists (options_to g c) nodes tints (c + 1) o e
+      pub all-column : c < nodes.shape.n → ColumnAt g old lists (options_to g c) nodes tints (c + 1) o e
       all-column h = record {
         laid = a;
         column = header c h;
         room =
-            room-front old (options_to g c ++ column_options g (c + 1)) (each (λ i. column_options g (i + 1)) (from (c + 1) (nodes.n - (c + 1))))
+            room-front old (options_to g c ++ column_options g (c + 1)) (each (λ i. column_options g (i + 1)) (from (c + 1) (nodes.shape.n - (c + 1))))
             (subst (λ (l : List Numbered). Suffices old l)
             (ap (options_to g) total
-            ∙ options-more g (c + 1) (nodes.n - (c + 1))
-            ∙ ap (λ (l : List Numbered). l ++ each (λ i. column_options g (i + 1)) (from (c + 1) (nodes.n - (c + 1)))) (options-one g c)) room);
+            ∙ options-more g (c + 1) (nodes.shape.n - (c + 1))
+            ∙ ap (λ (l : List Numbered). l ++ each (λ i. column_options g (i + 1)) (from (c + 1) (nodes.shape.n - (c + 1)))) (options-one g c)) room);
         written = w;
       }
         where
-          total : nodes.n ≡ c + 1 + (nodes.n - (c + 1))
+          total : nodes.shape.n ≡ c + 1 + (nodes.shape.n - (c + 1))
           total = omega arith
 
       -- after the last column the result is written
-      pub all_done : c ≡ nodes.n → Returned (results_of nodes.n (shown g.plan g.on)) old lists × (o ≡ length (kept_options nodes.n (shown g.plan g.on)))
-          × (e ≡ length (results_of nodes.n (shown g.plan g.on)).items)
+      pub all_done : c ≡ nodes.shape.n → Returned (results_of nodes.shape.n (shown g.plan g.on)) old lists × (o ≡ length (kept_options nodes.shape.n (shown g.plan g.on)))
+          × (e ≡ length (results_of nodes.shape.n (shown g.plan g.on)).items)
       unfolding results_of
       all_done q =
-          let same : options_to g c ≡ kept_options nodes.n (shown g.plan g.on) = ap (options_to g) q ∙ options-kept g ready nodes.n in
+          let same : options_to g c ≡ kept_options nodes.shape.n (shown g.plan g.on) = ap (options_to g) q ∙ options-kept g ready nodes.shape.n in
           let v = subst (λ (l : List Numbered). Written old lists l o e) same w in (
             record { ends = v.ends.list-is; numbers = v.numbers.list-is; items = v.items.list-is; colours = v.colours.list-is },
-            v.ends.at-is ∙ length-ends 0 (kept_options nodes.n (shown g.plan g.on)),
+            v.ends.at-is ∙ length-ends 0 (kept_options nodes.shape.n (shown g.plan g.on)),
             v.items.at-is,
           )
 

@@ -87,8 +87,8 @@ module _ {g : Ground} {old lists : FourLists} {xs : List Numbered} {nodes : Node
   below : (x : ℕ) → at nodes.down.now x ≡ at g.down x
   below x = ap (λ (l : List ℕ). at l x) a.laid.down-are
 
-  starts : nodes.start ≡ start g.plan
-  starts = omega (arith, nodes.begins, a.laid.standing.items-are)
+  starts : nodes.shape.start ≡ start g.plan
+  starts = omega (arith, nodes.shape.begins, a.laid.standing.items-are)
 
   top : Stand g c c
   top = stand-header g ready.tidy c a.column (ready.whole.headers c a.column)
@@ -106,10 +106,10 @@ module _ {g : Ground} {old lists : FourLists} {xs : List Numbered} {nodes : Node
     pub place_in : r < length nodes.down.now
     place_in = omega (arith, downs, stand-in g ready.tidy c a.column r b.stand)
 
-    pub column-done : r < nodes.start → Written old lists' (xs ++ column_options g c) o e
+    pub column-done : r < nodes.shape.start → Written old lists' (xs ++ column_options g c) o e
     column-done h = written_same old lists' o e (ap (λ (k : ℕ). xs ++ column_to g c k) (reach-past g.plan r (omega (arith, h, starts)))) b.written
 
-    module _ (h : nodes.start ≤ r) where
+    module _ (h : nodes.shape.start ≤ r) where
       behind : start g.plan ≤ r
       behind = omega (arith, h, starts)
 
@@ -122,7 +122,7 @@ module _ {g : Ground} {old lists : FourLists} {xs : List Numbered} {nodes : Node
       pub place-led : Led g r nodes.heads.now nodes.down.now
       place-led = record { tidy = ready.tidy; entry = entry_at; heads-are = a.laid.standing.heads-are; down-are = a.laid.down-are }
 
-      pub place-less : (m : ℕ) → m ≡ length nodes.heads.now → left m nodes.start (at nodes.down.now r) < left m nodes.start r
+      pub place-less : (m : ℕ) → m ≡ length nodes.heads.now → left m nodes.shape.start (at nodes.down.now r) < left m nodes.shape.start r
       place-less m q =
           rw (below r, starts)
           (step_less g ready.tidy c a.column r b.stand m (omega (arith, q, ap length a.laid.standing.heads-are, ready.tidy.heads-in)) behind)

@@ -18,7 +18,7 @@ pub record HeadsRead (g : Ground) (n : ℕ) (heads : List ℤ) : Type 0 where
 
 -- And so are the ways down and the colours.
 pub record NodesRead (g : Ground) (nodes : Nodes) (tints : List ℕ) : Type 0 where
-  pub standing : HeadsRead g nodes.n nodes.heads.now
+  pub standing : HeadsRead g nodes.shape.n nodes.heads.now
   pub down-are : nodes.down.now ≡ g.down
   pub tinted : Tinted g.plan tints
 

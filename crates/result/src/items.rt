@@ -38,14 +38,14 @@ fn keep_items(nodes: &Nodes, a: usize, b: usize, kept: &mut [u32]) -> usize
 
 // Writes the kept items, upward, to the front of `kept`: the primary ones, which come first, and then the secondary ones.
 pub fn get_items(nodes: &Nodes, kept: &mut [u32]) -> Counts
-    requires { (nodes.now.np ≤ nodes.now.n) × (nodes.now.n < node_bound) × (nodes.now.n < length nodes.now.heads.now) × (nodes.now.n ≤ length kept.old) }
-    ensures { (g : Ground) → HeadsRead g nodes.now.n nodes.now.heads.now
-        → (kept.new ≡ written (kept_items nodes.now.n (shown g.plan g.on)) kept.old)
-        × (result.primaries ≡ primaries_of nodes.now.np (kept_items nodes.now.n (shown g.plan g.on)))
-        × (result.secondaries ≡ secondaries_of nodes.now.np (kept_items nodes.now.n (shown g.plan g.on))) }
+    requires { (nodes.now.shape.np ≤ nodes.now.shape.n) × (nodes.now.shape.n < node_bound) × (nodes.now.shape.n < length nodes.now.heads.now) × (nodes.now.shape.n ≤ length kept.old) }
+    ensures { (g : Ground) → HeadsRead g nodes.now.shape.n nodes.now.heads.now
+        → (kept.new ≡ written (kept_items nodes.now.shape.n (shown g.plan g.on)) kept.old)
+        × (result.primaries ≡ primaries_of nodes.now.shape.np (kept_items nodes.now.shape.n (shown g.plan g.on)))
+        × (result.secondaries ≡ secondaries_of nodes.now.shape.np (kept_items nodes.now.shape.n (shown g.plan g.on))) }
 {
-    let primaries = keep_items(nodes, 0, nodes.np, kept);
-    let secondaries = keep_items(nodes, nodes.np, nodes.n, &mut kept[primaries..]);
+    let primaries = keep_items(nodes, 0, nodes.shape.np, kept);
+    let secondaries = keep_items(nodes, nodes.shape.np, nodes.shape.n, &mut kept[primaries..]);
     Counts {
         primaries: primaries as u32,
         secondaries: secondaries as u32,

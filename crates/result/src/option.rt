@@ -29,8 +29,8 @@ pub fn get_option(nodes: &Nodes, tints: &[u32], r: usize, out: &mut Writer)
             break k;
         }
         let column = nodes.column(q);
-        if let Some(c) = column {
-            out.put(item_of_column(c), tints[q]);
+        if let Some(i) = column {
+            out.put(item_of_column(i), tints[q]);
         }
         q += 1;
     };

@@ -32,7 +32,7 @@ fn get_column(nodes: &Nodes, tints: &[u32], c: usize, out: &mut Writer)
 {
     let mut r = nodes.below(c);
     // down the column's links
-    while r >= nodes.start {
+    while r >= nodes.shape.start {
         let first = nodes.column(nodes.lead(r)).is_none();
         if first {
             get_option(nodes, tints, r, out);
@@ -43,13 +43,13 @@ fn get_column(nodes: &Nodes, tints: &[u32], c: usize, out: &mut Writer)
 
 // Writes the options that are left to the fronts of the four lists, item by item; how many options and entries that are.
 pub fn get_options(nodes: &Nodes, tints: &[u32], results: &mut Results<u32>) -> Cursor
-    requires { (g : Ground) × NodesRead g nodes.now tints.now × LongEnough (results_of nodes.now.n (shown g.plan g.on)) (lists_in results.old) }
+    requires { (g : Ground) × NodesRead g nodes.now tints.now × LongEnough (results_of nodes.now.shape.n (shown g.plan g.on)) (lists_in results.old) }
     ensures lists { SameResults results.old results.new }
     ensures kept { results.new.kept.now ≡ results.old.kept.now }
-    ensures options { (g : Ground) → NodesRead g nodes.now tints.now → LongEnough (results_of nodes.now.n (shown g.plan g.on)) (lists_in results.old)
-        → Returned (results_of nodes.now.n (shown g.plan g.on)) (lists_in results.old) (lists_in results.new)
-        × (result.option ≡ length (kept_options nodes.now.n (shown g.plan g.on)))
-        × (result.entry ≡ length (results_of nodes.now.n (shown g.plan g.on)).items) }
+    ensures options { (g : Ground) → NodesRead g nodes.now tints.now → LongEnough (results_of nodes.now.shape.n (shown g.plan g.on)) (lists_in results.old)
+        → Returned (results_of nodes.now.shape.n (shown g.plan g.on)) (lists_in results.old) (lists_in results.new)
+        × (result.option ≡ length (kept_options nodes.now.shape.n (shown g.plan g.on)))
+        × (result.entry ≡ length (results_of nodes.now.shape.n (shown g.plan g.on)).items) }
 {
     let mut out = Writer {
         ends: &mut *results.ends,
@@ -59,7 +59,7 @@ pub fn get_options(nodes: &Nodes, tints: &[u32], results: &mut Results<u32>) -> 
         option: 0,
         entry: 0,
     };
-    for item in 0..nodes.n {
+    for item in 0..nodes.shape.n {
         if !nodes.is_empty(item + 1) {
             get_column(nodes, tints, item + 1, &mut out);
         }

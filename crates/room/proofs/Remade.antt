@@ -2,7 +2,7 @@
 use Prim.Native.Nat.{ℕ, suc, ◌+◌, ◌<◌}
 use native.Mathlib.Omega.{arith}
 use mathlib.Core.Path.{◌≡◌, ◌∙◌, ap, sym}
-use mathlib.Core.List.{List, [], ◌∷◌, ◌++◌, map, map-append}
+use mathlib.Core.List.{List, [], ◌∷◌, map, map-append}
 use lib.ListN.{length, get_or, take, set, length-map}
 use lib.Seq.{take-suc, length-take-le}
 use Rattle.rules.specs.Lists.{written}

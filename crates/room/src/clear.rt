@@ -5,7 +5,7 @@ ghost use Rattle.std.specs.Prelude.{◌≡◌, map};
 pub fn clear<T: Copy>(list: &mut [T], zero: T)
     ensures { list.new ≡ map (λ (x : T). zero) list.old }
 {
-    for i in 0..list.len() {
-        list[i] = zero;
+    for place in 0..list.len() {
+        list[place] = zero;
     }
 }

@@ -34,7 +34,7 @@ pass_2-requires c =
     let l = c.loop-q in
     let h = c.requires.0 in (
       after h (testing h (walked h c.args.r l.q)),
-      rw l.invariant.0.start (behind-below (l.invariant.1 h c.requires.1) c.loop-q-test.true (sym c.in-Some.is ∙ c.column.ensures) (search rules)),
+      rw l.invariant.0.shape (behind-below (l.invariant.1 h c.requires.1) c.loop-q-test.true (sym c.in-Some.is ∙ c.column.ensures) (search rules)),
     )
 
 pub loop-q-preserved : goal.loop-q-preserved
@@ -44,7 +44,7 @@ loop-q-preserved c =
       λ h m.
           let some = sym c.in-Some.is ∙ c.column.ensures in
           behind-back (l.invariant.1 h m) c.loop-q-test.true some
-          (c.pass_2.ensures.undone _ (rw l.invariant.0.start (behind-below (l.invariant.1 h m) c.loop-q-test.true some (search rules)))),
+          (c.pass_2.ensures.undone _ (rw l.invariant.0.shape (behind-below (l.invariant.1 h m) c.loop-q-test.true some (search rules)))),
     )
 
 pub returns-clause-undone : goal.returns-clause-undone

@@ -10,7 +10,7 @@ use Rattle.blocking.proofs.backup.backup.Given as goal
 abbrev pub invariant-loop-q : goal.invariant-loop-q
 invariant-loop-q l =
     SameNodes l.fn.nodes l.nodes
-    × ((h : Ground) → in_nodes (Behind h l.tints l.from l.r l.fn.nodes.start) l.fn.nodes → in_nodes (Behind h l.tints l.q l.r l.fn.nodes.start) l.nodes)
+    × ((h : Ground) → in_nodes (Behind h l.tints l.from l.r l.fn.nodes.shape.start) l.fn.nodes → in_nodes (Behind h l.tints l.q l.r l.fn.nodes.shape.start) l.nodes)
 
 abbrev pub decreases-loop-q : goal.decreases-loop-q
 decreases-loop-q l = way_back (length l.fn.nodes.heads.now) l.r l.q

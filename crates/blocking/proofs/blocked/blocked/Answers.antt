@@ -35,18 +35,18 @@ pass_2-requires c =
     let h = c.requires.0 in
     let s = c.in-Some.ensures.place h c.requires.1 c.requires.2 in (
       ground_at h c.args.r c.in-Some.place.q,
-      rw (same-then c.hide_entries.ensures.nodes c.unhide_entries.ensures.nodes).start
+      rw (same-then c.hide_entries.ensures.nodes c.unhide_entries.ensures.nodes).shape
           (stopped-below s (c.unhide_entries.ensures.undone _ (stopped-half s)) c.above-above.ensures.node),
     )
 
 -- what `backup` finds
-behind : (c : After-pass_2) → in_nodes (Behind c.requires.0 c.args.tints.now (c.in-Some.place.q - 1) c.args.r c.pass_2.new.nodes.start) c.pass_2.new.nodes
+behind : (c : After-pass_2) → in_nodes (Behind c.requires.0 c.args.tints.now (c.in-Some.place.q - 1) c.args.r c.pass_2.new.nodes.shape.start) c.pass_2.new.nodes
 behind c =
     let s = c.in-Some.ensures.place c.requires.0 c.requires.1 c.requires.2 in
     let same = same-then c.hide_entries.ensures.nodes c.unhide_entries.ensures.nodes in
-    rw (same-then same c.pass_2.ensures.nodes).start
+    rw (same-then same c.pass_2.ensures.nodes).shape
     (stopped-behind s
-    (c.pass_2.ensures.undone _ (rw same.start (stopped-below s (c.unhide_entries.ensures.undone _ (stopped-half s)) c.above-above.ensures.node))))
+    (c.pass_2.ensures.undone _ (rw same.shape (stopped-below s (c.unhide_entries.ensures.undone _ (stopped-half s)) c.above-above.ensures.node))))
 
 pub backup-requires-2 : goal.backup-requires-2
 backup-requires-2 c = (c.requires.0, behind (goal.at.backup-requires-2 c).After-pass_2)

@@ -3,7 +3,7 @@
 use Rattle.std.proofs.Common.{◌≤◌, ◌<◌, ◌∙◌, sym, length, arith}
 use Rattle.links.specs.Ground.{Ground, Holds}
 use Rattle.links.specs.Nodes.{in_nodes, SameNodes}
-use Rattle.links.proofs.SameNodes.{same-refl, same-then}
+use Rattle.links.proofs.SameNodes.{same-refl, same-then, same-start}
 use Rattle.blocking.specs.Forward.{Test, Middle, Inner}
 use Rattle.blocking.proofs.Items.{outer-begins, outer-over, outer-over-way, outer-link, enter}
 use Rattle.blocking.proofs.Rivals.{Passed, leave, middle-tint, middle-fits, round, spare, down-in, step_down, step_left}
@@ -12,24 +12,24 @@ use Rattle.blocking.proofs.hide_entries.hide_entries.Goals as goal
 use Rattle.blocking.proofs.hide_entries.hide_entries.Goals.{In-loop-nodes, In-loop-qq, Joined-clash, then-clash+else-loop-qq-test, else-clash}
 
 -- at the head of each inner loop
-middle : (c : In-loop-nodes) (h : Ground) → Test h c.args.tints.now c.args.marks.now c.args.r c.args.nodes.now.start c.args.nodes.now.np → in_nodes (Holds h) c.args.nodes.now
-    → in_nodes (Middle h c.args.tints.now c.args.marks.now c.args.r c.args.nodes.now.start c.args.nodes.now.np c.loop-q.q c.loop-nodes.rr) c.loop-nodes.nodes
+middle : (c : In-loop-nodes) (h : Ground) → Test h c.args.tints.now c.args.marks.now c.args.r c.args.nodes.now.shape → in_nodes (Holds h) c.args.nodes.now
+    → in_nodes (Middle h c.args.tints.now c.args.marks.now c.args.r c.args.nodes.now.shape c.loop-q.q c.loop-nodes.rr) c.loop-nodes.nodes
 middle c h w l =
     c.loop-nodes.invariant.1 h (enter (c.loop-q.invariant.1 h w l) c.loop-q-test.true (sym c.in-Some.is ∙ c.column.ensures) c.below-rr.ensures.node)
 
-inner : (c : In-loop-qq) (h : Ground) → Test h c.args.tints.now c.args.marks.now c.args.r c.args.nodes.now.start c.args.nodes.now.np → in_nodes (Holds h) c.args.nodes.now
-    → in_nodes (Inner h c.args.tints.now c.args.marks.now c.args.r c.args.nodes.now.start c.args.nodes.now.np c.loop-q.q c.loop-nodes.rr c.loop-qq.qq) c.loop-qq.nodes
+inner : (c : In-loop-qq) (h : Ground) → Test h c.args.tints.now c.args.marks.now c.args.r c.args.nodes.now.shape → in_nodes (Holds h) c.args.nodes.now
+    → in_nodes (Inner h c.args.tints.now c.args.marks.now c.args.r c.args.nodes.now.shape c.loop-q.q c.loop-nodes.rr c.loop-qq.qq) c.loop-qq.nodes
 inner c h w l =
     let v = c.loop-nodes in
     let m = v.invariant.1 h (enter (c.loop-q.invariant.1 h w l) c.loop-q-test.true (sym c.in-Some.is ∙ c.column.ensures) c.below-rr.ensures.node) in
-    c.loop-qq.invariant.1 h (round m (omega (arith, c.loop-nodes-test.true, v.invariant.0.start)) (sym c.clash.ensures ∙ c.if-clash.true))
+    c.loop-qq.invariant.1 h (round m (omega (arith, c.loop-nodes-test.true, same-start v.invariant.0)) (sym c.clash.ensures ∙ c.if-clash.true))
 
 -- rr was dealt with, rival or not
 passed : (c : Joined-clash) (h : Ground)
-    → in_nodes (Middle h c.args.tints.now c.args.marks.now c.args.r c.args.nodes.now.start c.args.nodes.now.np c.loop-q.q c.loop-nodes.rr) c.loop-nodes.nodes
-    → in_nodes (Passed h c.args.tints.now c.args.marks.now c.args.r c.args.nodes.now.start c.args.nodes.now.np c.loop-q.q c.loop-nodes.rr) c.if-clash.nodes
+    → in_nodes (Middle h c.args.tints.now c.args.marks.now c.args.r c.args.nodes.now.shape c.loop-q.q c.loop-nodes.rr) c.loop-nodes.nodes
+    → in_nodes (Passed h c.args.tints.now c.args.marks.now c.args.r c.args.nodes.now.shape c.loop-q.q c.loop-nodes.rr) c.if-clash.nodes
 passed c h m =
-    let b : c.args.nodes.now.start ≤ c.loop-nodes.rr = omega (arith, c.loop-nodes-test.true, c.loop-nodes.invariant.0.start) in
+    let b : c.args.nodes.now.shape.start ≤ c.loop-nodes.rr = omega (arith, c.loop-nodes-test.true, same-start c.loop-nodes.invariant.0) in
     elim c.if-clash.branch [
       | then-clash+else-loop-qq-test w ↦
           rw w.nodes-is (inner-done (w.loop-qq.invariant.1 h (round m b (sym c.clash.ensures ∙ w.if-clash.true))) w.loop-qq-test.false)
@@ -62,7 +62,7 @@ pub below-rr-requires : goal.below-rr-requires
 below-rr-requires c = outer-link (c.loop-q.invariant.1 c.requires.0 c.requires.1 c.requires.2) c.loop-q-test.true (sym c.in-Some.is ∙ c.column.ensures)
 
 tint : (c : In-loop-nodes) → c.loop-nodes.rr < length c.args.tints.now
-tint c = middle-tint (middle c c.requires.0 c.requires.1 c.requires.2) (omega (arith, c.loop-nodes-test.true, c.loop-nodes.invariant.0.start))
+tint c = middle-tint (middle c c.requires.0 c.requires.1 c.requires.2) (omega (arith, c.loop-nodes-test.true, same-start c.loop-nodes.invariant.0))
 
 pub offset_bounds-tints-rr : goal.offset_bounds-tints-rr
 offset_bounds-tints-rr c = omega (arith, tint c)
@@ -73,7 +73,7 @@ bounds-tints-rr c = tint (goal.at.bounds-tints-rr c).In-loop-nodes
 pub overflow_add-qq : goal.overflow_add-qq
 overflow_add-qq c =
     let m = middle (goal.at.overflow_add-qq c).In-loop-nodes c.requires.0 c.requires.1 c.requires.2 in
-    omega (arith, middle-fits m (omega (arith, c.loop-nodes-test.true, c.loop-nodes.invariant.0.start)))
+    omega (arith, middle-fits m (omega (arith, c.loop-nodes-test.true, same-start c.loop-nodes.invariant.0)))
 
 pub column-requires-in-loop-qq : goal.column-requires-in-loop-qq
 column-requires-in-loop-qq c = (inner-in (inner c c.requires.0 c.requires.1 c.requires.2)).0
@@ -104,7 +104,7 @@ returns-then-stops-clause-place c =
     let e = c.loop-qq in
     λ h w l.
     inner-stops (inner (goal.at.returns-then-stops-clause-place c).In-loop-qq h w l) c.loop-qq-test.true (sym c.in-Some-column.is ∙ c.column-in-loop-qq.ensures)
-    (rw e.invariant.0.np at (sym c.stops.ensures ∙ c.if-stops.true))
+    (rw e.invariant.0.shape at (sym c.stops.ensures ∙ c.if-stops.true))
 
 pub fewer-requires : goal.fewer-requires
 fewer-requires c =
@@ -125,7 +125,7 @@ loop-qq-preserved c =
       same-then (same-then e.invariant.0 c.fewer.ensures.nodes) c.unlink.ensures.nodes,
       λ h m.
           rw (c.unlink.ensures.heads, c.unlink.ensures.up, c.unlink.ensures.down, c.fewer.ensures.heads, c.fewer.ensures.up, c.fewer.ensures.down)
-          (inner-take (e.invariant.1 h m) c.loop-qq-test.true (sym c.in-Some-column.is ∙ c.column-in-loop-qq.ensures) (rw e.invariant.0.np at (sym c.stops.ensures ∙ c.if-stops.false))),
+          (inner-take (e.invariant.1 h m) c.loop-qq-test.true (sym c.in-Some-column.is ∙ c.column-in-loop-qq.ensures) (rw e.invariant.0.shape at (sym c.stops.ensures ∙ c.if-stops.false))),
     )
 
 pub below-rr-requires-in-loop-nodes : goal.below-rr-requires-in-loop-nodes
@@ -149,7 +149,7 @@ loop-q-preserved c =
       v.invariant.0,
       λ h w l.
           leave (v.invariant.1 h (enter (c.loop-q.invariant.1 h w l) c.loop-q-test.true (sym c.in-Some.is ∙ c.column.ensures) c.below-rr.ensures.node))
-          (omega (arith, c.loop-nodes-test.false, v.invariant.0.start)),
+          (omega (arith, c.loop-nodes-test.false, same-start v.invariant.0)),
     )
 
 pub returns-clause-place : goal.returns-clause-place

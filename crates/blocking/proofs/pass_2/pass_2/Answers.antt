@@ -3,21 +3,21 @@
 use Rattle.std.proofs.Common.{rules, ◌≤◌, ◌<◌, ◌∙◌, sym, length, arith}
 use Rattle.links.specs.Ground.{Ground}
 use Rattle.links.specs.Nodes.{in_nodes, SameNodes}
-use Rattle.links.proofs.SameNodes.{same-then}
+use Rattle.links.proofs.SameNodes.{same-then, same-start}
 use Rattle.blocking.specs.Undo.{Below}
 use Rattle.blocking.proofs.Upwards.{Above, below-done, below-tint, below_half, clash-above, agree-above, link-in, link-falls, step-up}
 use Rattle.blocking.proofs.pass_2.pass_2.Goals as goal
 use Rattle.blocking.proofs.pass_2.pass_2.Goals.{In-loop-nodes, Joined-clash, then-clash, else-clash}
 
 tint : (c : In-loop-nodes) → c.loop-nodes.rr < length c.args.tints.now
-tint c = below-tint (c.loop-nodes.invariant.1 c.requires.0 c.requires.1) (omega (arith, c.loop-nodes-test.true, c.loop-nodes.invariant.0.start))
+tint c = below-tint (c.loop-nodes.invariant.1 c.requires.0 c.requires.1) (omega (arith, c.loop-nodes-test.true, same-start c.loop-nodes.invariant.0))
 
 -- after the branch k's option is whole, and the nodes are still the same ones
-met : (c : Joined-clash) (g : Ground) → in_nodes (Below g c.args.tints.now c.args.from c.args.tint c.args.nodes.now.start) c.args.nodes.now
-    → in_nodes (Above g c.args.tints.now c.loop-nodes.rr c.args.tint c.args.nodes.now.start) c.if-clash.nodes
+met : (c : Joined-clash) (g : Ground) → in_nodes (Below g c.args.tints.now c.args.from c.args.tint c.args.nodes.now.shape.start) c.args.nodes.now
+    → in_nodes (Above g c.args.tints.now c.loop-nodes.rr c.args.tint c.args.nodes.now.shape.start) c.if-clash.nodes
 met c g m =
     let b = c.loop-nodes.invariant.1 g m in
-    let h : c.args.nodes.now.start ≤ c.loop-nodes.rr = omega (arith, c.loop-nodes-test.true, c.loop-nodes.invariant.0.start) in
+    let h : c.args.nodes.now.shape.start ≤ c.loop-nodes.rr = omega (arith, c.loop-nodes-test.true, same-start c.loop-nodes.invariant.0) in
     elim c.if-clash.branch [
       | then-clash w ↦
           let z = sym c.clash.ensures ∙ w.if-clash.true in
@@ -41,7 +41,7 @@ bounds-tints-rr c = tint (goal.at.bounds-tints-rr c).In-loop-nodes
 pub unhide_entries-requires : goal.unhide_entries-requires
 unhide_entries-requires c =
     let l = c.loop-nodes in
-    (_, below_half (l.invariant.1 c.requires.0 c.requires.1) (omega (arith, c.loop-nodes-test.true, l.invariant.0.start)) (sym c.clash.ensures ∙ c.if-clash.true))
+    (_, below_half (l.invariant.1 c.requires.0 c.requires.1) (omega (arith, c.loop-nodes-test.true, same-start l.invariant.0)) (sym c.clash.ensures ∙ c.if-clash.true))
 
 pub above-rr-requires : goal.above-rr-requires
 above-rr-requires c = link-in (met c c.requires.0 c.requires.1)
@@ -55,4 +55,4 @@ loop-nodes-preserved c =
     (same j, λ g m. step-up (met j g m) (search rules))
 
 pub returns-clause-undone : goal.returns-clause-undone
-returns-clause-undone c = λ g m. below-done (c.loop-nodes.invariant.1 g m) (omega (arith, c.loop-nodes-test.false, c.loop-nodes.invariant.0.start))
+returns-clause-undone c = λ g m. below-done (c.loop-nodes.invariant.1 g m) (omega (arith, c.loop-nodes-test.false, same-start c.loop-nodes.invariant.0))

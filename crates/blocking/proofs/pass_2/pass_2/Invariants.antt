@@ -7,7 +7,7 @@ use Rattle.blocking.proofs.pass_2.pass_2.Given as goal
 abbrev pub invariant-loop-nodes : goal.invariant-loop-nodes
 invariant-loop-nodes l =
     SameNodes l.fn.nodes l.nodes
-    × ((g : Ground) → in_nodes (Below g l.tints l.from l.tint l.fn.nodes.start) l.fn.nodes → in_nodes (Below g l.tints l.rr l.tint l.fn.nodes.start) l.nodes)
+    × ((g : Ground) → in_nodes (Below g l.tints l.from l.tint l.fn.nodes.shape.start) l.fn.nodes → in_nodes (Below g l.tints l.rr l.tint l.fn.nodes.shape.start) l.nodes)
 
 abbrev pub decreases-loop-nodes : goal.decreases-loop-nodes
 decreases-loop-nodes l = l.rr

@@ -13,5 +13,5 @@ invariant-loop-k l =
     SameNodes l.fn.nodes l.nodes
     × (l.k < length g.ends.now → (l.begin ≤ at g.ends.now l.k) × (at g.ends.now l.k ≤ length g.items.now) × (at g.ends.now l.k ≤ length g.colours.now))
     × ((f : Figures) (ns : ℕ)
-    → Buildable f l.fn.nodes.np ns l.fn.nodes.n g.items.now g.colours.now g.ends.now l.fn.nodes.heads.now l.fn.nodes.up.now l.fn.nodes.down.now l.fn.tints l.fn.marks
-    → AtOption l.fn.nodes.np ns g.items.now g.colours.now g.ends.now l.nodes.heads.now l.nodes.up.now l.nodes.down.now l.tints l.edge l.begin l.k)
+    → Buildable f l.fn.nodes.shape.np ns l.fn.nodes.shape.n g.items.now g.colours.now g.ends.now l.fn.nodes.heads.now l.fn.nodes.up.now l.fn.nodes.down.now l.fn.tints l.fn.marks
+    → AtOption l.fn.nodes.shape.np ns g.items.now g.colours.now g.ends.now l.nodes.heads.now l.nodes.up.now l.nodes.down.now l.tints l.edge l.begin l.k)

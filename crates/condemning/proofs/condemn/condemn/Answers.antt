@@ -2,7 +2,7 @@
 use Rattle.std.proofs.Common.{ℕ, List, ◌+◌, refl, ◌∙◌, sym, ap}
 use mathlib.Core.Path.{subst}
 use Rattle.links.specs.Column.{at}
-use Rattle.links.proofs.SameNodes.{same-refl, same-then}
+use Rattle.links.proofs.SameNodes.{same-refl, same-then, same-np}
 use Rattle.condemning.specs.Search.{Tried}
 use Rattle.condemning.proofs.Finding.{Found, find-column, find-begin, find-down, find-trying, find-next, find-less}
 use Rattle.condemning.proofs.condemn.condemn.Goals as goal
@@ -18,7 +18,7 @@ test_at-stack-requires c =
     let a = c.requires in
     let v = c.loop-nodes.invariant in
     let p = v.4 a.0 a.1 a.2 a.3 in
-    (a.0, a.1, p.0, p.1, rw (v.1, v.2, v.3, v.0.np, v.0.start) (find-trying a.2 a.3 p.2 (rw v.0.start at c.loop-nodes-test.true)))
+    (a.0, a.1, p.0, p.1, rw (v.1, v.2, v.3, v.0.shape) (find-trying a.2 a.3 p.2 (rw v.0.shape at c.loop-nodes-test.true)))
 
 pub below-r-requires-in-loop-nodes : goal.below-r-requires-in-loop-nodes
 below-r-requires-in-loop-nodes c =
@@ -31,7 +31,7 @@ loop-nodes-smaller c =
     let a = c.requires in
     let v = c.loop-nodes.invariant in
     rw (c.below-r-in-loop-nodes.ensures.node, c.test_at-stack.ensures.same.2, v.3)
-    (find-less a.2 a.3 (v.4 a.0 a.1 a.2 a.3).2 (rw v.0.start at c.loop-nodes-test.true))
+    (find-less a.2 a.3 (v.4 a.0 a.1 a.2 a.3).2 (rw v.0.shape at c.loop-nodes-test.true))
 
 pub loop-nodes-preserved : goal.loop-nodes-preserved
 loop-nodes-preserved c =
@@ -44,11 +44,11 @@ loop-nodes-preserved c =
       t.same.2 ∙ v.3,
       λ g i s w.
           let p = v.4 g i s w in
-          let b = rw v.0.start at c.loop-nodes-test.true in
-          let f = t.found g i p.0 p.1 (rw (v.1, v.2, v.3, v.0.np, v.0.start) (find-trying s w p.2 b)) in (
+          let b = rw v.0.shape at c.loop-nodes-test.true in
+          let f = t.found g i p.0 p.1 (rw (v.1, v.2, v.3, v.0.shape) (find-trying s w p.2 b)) in (
             f.0,
             f.1,
-            subst (Found g i c.args.nodes.now.np f.0 c.test_at-stack.new.tints c.test_at-stack.new.marks) (sym down)
-                (find-next s w p.2 b {z' = f.0} (subst (λ (k : ℕ). Tried g i k (c.loop-nodes.r + 1) f.0 c.test_at-stack.new.tints c.test_at-stack.new.marks) v.0.np f.2)),
+            subst (Found g i c.args.nodes.now.shape.np f.0 c.test_at-stack.new.tints c.test_at-stack.new.marks) (sym down)
+                (find-next s w p.2 b {z' = f.0} (subst (λ (k : ℕ). Tried g i k (c.loop-nodes.r + 1) f.0 c.test_at-stack.new.tints c.test_at-stack.new.marks) (same-np v.0) f.2)),
           ),
     )

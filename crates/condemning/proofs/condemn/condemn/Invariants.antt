@@ -12,8 +12,8 @@ invariant-loop-nodes l =
     let n = l.fn.nodes in
     let m = l.nodes in
     SameNodes n m × (m.heads.now ≡ n.heads.now) × (m.up.now ≡ n.up.now) × (m.down.now ≡ n.down.now)
-    × ((g : Ground) (i : ℕ) → Search g i l.c n.start n.np → Hiding g i n.heads.now n.up.now n.down.now l.fn.tints l.fn.marks
-    → (z : ℕ) × (l.stack ≡ column z) × Found g i n.np z l.tints l.marks l.r)
+    × ((g : Ground) (i : ℕ) → Search g i l.c n.shape → Hiding g i n.heads.now n.up.now n.down.now l.fn.tints l.fn.marks
+    → (z : ℕ) × (l.stack ≡ column z) × Found g i n.shape.np z l.tints l.marks l.r)
 
 abbrev pub decreases-loop-nodes : goal.decreases-loop-nodes
-decreases-loop-nodes l = left (length l.fn.nodes.heads.now) l.fn.nodes.start l.r
+decreases-loop-nodes l = left (length l.fn.nodes.heads.now) l.fn.nodes.shape.start l.r

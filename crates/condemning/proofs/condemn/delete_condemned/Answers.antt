@@ -13,12 +13,12 @@ use Rattle.condemning.proofs.condemn.delete_condemned.Goals as goal
 use Rattle.condemning.proofs.condemn.delete_condemned.Goals.{In_ok-really_delete_option}
 
 -- where the option of a node of the chain is deleted, and no column was emptied
-onwards : (c : In_ok-really_delete_option) {g : Ground} {i z : ℕ} → c.args.stack ≡ column z → in_nodes (Sparing g i c.args.nodes.now.np z) c.args.nodes.now c.args.tints.now
-    → in_nodes (Onwards g i c.args.nodes.now.np c.in-Some.r c.args.tints.now) c.really_delete_option.new.nodes
+onwards : (c : In_ok-really_delete_option) {g : Ground} {i z : ℕ} → c.args.stack ≡ column z → in_nodes (Sparing g i c.args.nodes.now.shape.np z) c.args.nodes.now c.args.tints.now
+    → in_nodes (Onwards g i c.args.nodes.now.shape.np c.in-Some.r c.args.tints.now) c.really_delete_option.new.nodes
 onwards c {g} {i} {z} e s =
     let d = at_some (c.loop-next.invariant.1 g i z e s) c.in-Some.is in
     let o = at_ok (c.really_delete_option.ensures.deleted (after g (deletes g d.0.done)) (spare-deleting s d) (spare-within s d)) c.in_ok-really_delete_option.was in
-    spare-onwards s d (rw c.loop-next.invariant.0.np at o)
+    spare-onwards s d (rw c.loop-next.invariant.0.shape at o)
 
 pub loop-next-init : goal.loop-next-init
 loop-next-init c = (same-refl c.args.nodes.now, λ g i z e s. (z, e, spare-begin s))
@@ -38,7 +38,7 @@ returns-in_err-really_delete_option-clause-deleted c =
     λ g i z e s.
     let d = at_some (c.loop-next.invariant.1 g i z e s) c.in-Some.is in
     let o = c.really_delete_option.ensures.deleted (after g (deletes g d.0.done)) (spare-deleting s d) (spare-within s d) in
-    (o.0, same ∙ o.1, spare-stop s d (rw c.loop-next.invariant.0.np at o.2) (omega (arith, ending_err o.0 _ (sym c.in_err-really_delete_option.was ∙ o.1))))
+    (o.0, same ∙ o.1, spare-stop s d (rw c.loop-next.invariant.0.shape at o.2) (omega (arith, ending_err o.0 _ (sym c.in_err-really_delete_option.was ∙ o.1))))
 
 pub lead-requires : goal.lead-requires
 lead-requires c = let q = c.requires in (_, (onwards (goal.at.lead-requires c).In_ok-really_delete_option q.3 q.4).led)

@@ -10,8 +10,8 @@ abbrev pub invariant-loop-next : goal.invariant-loop-next
 invariant-loop-next l =
     let n = l.fn.nodes in
     SameNodes n l.nodes
-    × ((g : Ground) (i z : ℕ) → l.fn.stack ≡ column z → Sparing g i n.np z n.heads.now n.up.now n.down.now l.tints
-    → in_nodes (DeletesAt g i n.np l.tints) l.nodes l.next)
+    × ((g : Ground) (i z : ℕ) → l.fn.stack ≡ column z → Sparing g i n.shape.np z n.heads.now n.up.now n.down.now l.tints
+    → in_nodes (DeletesAt g i n.shape.np l.tints) l.nodes l.next)
 
 abbrev pub decreases-loop-next : goal.decreases-loop-next
 decreases-loop-next l = node_in l.next

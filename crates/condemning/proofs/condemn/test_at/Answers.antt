@@ -30,7 +30,7 @@ mark_items-requires c =
     (hiding q.0 q.1, q.0.on, try-marking q.4 (c.lead-q.ensures (hiding q.0 q.1) (try-led q.4)) (no-item (head c.args.nodes.now.heads.now c.lead-q.result) (search rules)))
 
 -- where the option is tested
-testing : (c : After-mark_items) {g : Ground} {i z : ℕ} → in_nodes (Trying g i c.args.r c.args.nodes.now.start c.args.nodes.now.np z) c.args.nodes.now c.args.tints.now c.args.marks.now
+testing : (c : After-mark_items) {g : Ground} {i z : ℕ} → in_nodes (Trying g i c.args.r c.args.nodes.now.shape z) c.args.nodes.now c.args.tints.now c.args.marks.now
     → Testing g i c.args.r c.lead-q.result c.args.nodes.now.heads.now c.args.tints.now c.mark_items.new.marks
 testing c {g} {i} t =
     let l = c.lead-q.ensures (hiding g i) (try-led t) in

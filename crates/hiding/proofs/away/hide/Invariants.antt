@@ -10,7 +10,7 @@ use Rattle.hiding.proofs.away.hide.Given as goal
 abbrev pub invariant-loop-nodes : goal.invariant-loop-nodes
 invariant-loop-nodes l =
     SameNodes l.fn.nodes l.nodes
-    × ((g : Ground) → Column g l.tints l.c l.fn.nodes.start → in_nodes (Holds g) l.fn.nodes → in_nodes (Descent g l.c l.fn.nodes.np) l.nodes l.rr l.stack)
+    × ((g : Ground) → Column g l.tints l.c l.fn.nodes.shape.start → in_nodes (Holds g) l.fn.nodes → in_nodes (Descent g l.c l.fn.nodes.shape.np) l.nodes l.rr l.stack)
 
 abbrev pub decreases-loop-nodes : goal.decreases-loop-nodes
-decreases-loop-nodes l = left (length l.fn.nodes.heads.now) l.fn.nodes.start l.rr
+decreases-loop-nodes l = left (length l.fn.nodes.heads.now) l.fn.nodes.shape.start l.rr

@@ -29,7 +29,7 @@ fewer-t-requires c =
 -- the item emptied last, whichever way the tests went
 pub loop-qq-preserved : goal.loop-qq-preserved
 loop-qq-preserved c =
-    let emptied : c.if-t-eq0.stack ≡ cond (eqb c.fewer-t.result 0 && leb c.in-Some.j c.args.nodes.now.np) (Some c.in-Some.j) c.loop-qq.stack =
+    let emptied : c.if-t-eq0.stack ≡ cond (eqb c.fewer-t.result 0 && leb c.in-Some.j c.args.nodes.now.shape.np) (Some c.in-Some.j) c.loop-qq.stack =
     grind arith
     in (
       same-then c.loop-qq.invariant.0 (same-then c.unlink.ensures.nodes c.fewer-t.ensures.nodes),

@@ -11,7 +11,7 @@ use Rattle.hiding.proofs.back.unhide.Given as goal
 abbrev pub invariant-loop-nodes : goal.invariant-loop-nodes
 invariant-loop-nodes l =
     SameNodes l.fn.nodes l.nodes
-    × ((g : Ground) → Column g l.tints l.c l.fn.nodes.start → in_nodes (Holds (taken g (hides g l.c))) l.fn.nodes → in_nodes (DescentBack g l.c) l.nodes l.rr)
+    × ((g : Ground) → Column g l.tints l.c l.fn.nodes.shape.start → in_nodes (Holds (taken g (hides g l.c))) l.fn.nodes → in_nodes (DescentBack g l.c) l.nodes l.rr)
 
 abbrev pub decreases-loop-nodes : goal.decreases-loop-nodes
-decreases-loop-nodes l = left (length l.fn.nodes.heads.now) l.fn.nodes.start l.rr
+decreases-loop-nodes l = left (length l.fn.nodes.heads.now) l.fn.nodes.shape.start l.rr

@@ -1,5 +1,4 @@
 -- The walk of `rounds`: what is left is the rules' rest.
-use Rattle.std.proofs.Common.{◌≡◌}
 use Rattle.rules.specs.Rounds.{rounds as rounds_of}
 use Rattle.links.specs.Ground.{Ground}
 use Rattle.links.specs.Nodes.{SameNodes}
@@ -13,5 +12,5 @@ invariant-loop-run l =
     let n = l.fn.nodes in
     let m = l.nodes in
     SameNodes n m
-    × ((g : Ground) → Standing g n.heads.now n.up.now n.down.now l.fn.tints l.fn.marks → Figured g.plan n.start n.np → n.n ≡ g.plan.n
-    → Turning g.plan (rounds_of n.np n.n l.cap 0 (state_of g)) n.np n.n l.cap l.run m.heads.now m.up.now m.down.now l.tints l.marks)
+    × ((g : Ground) → Standing g n.heads.now n.up.now n.down.now l.fn.tints l.fn.marks → Figured g.plan n.shape
+    → Turning g.plan (rounds_of n.shape.np n.shape.n l.cap 0 (state_of g)) n.shape.np n.shape.n l.cap l.run m.heads.now m.up.now m.down.now l.tints l.marks)

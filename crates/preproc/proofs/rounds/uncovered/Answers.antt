@@ -9,8 +9,8 @@ use Rattle.preproc.proofs.rounds.uncovered.Goals.{After-find}
 
 -- what `find` gives over the headers of the primary items
 found : (c : After-find)
-    → MatchOption c.find.result ((x : ℕ) → 1 ≤ x → x < c.args.nodes.now.np + 1 → item_of (head c.args.nodes.now.heads.now x) ≢ 0)
-    (λ x. (1 ≤ x) × (x < c.args.nodes.now.np + 1) × (item_of (head c.args.nodes.now.heads.now x) ≡ 0) × ((b : ℕ) → 1 ≤ b → b < x → item_of (head c.args.nodes.now.heads.now b) ≢ 0))
+    → MatchOption c.find.result ((x : ℕ) → 1 ≤ x → x < c.args.nodes.now.shape.np + 1 → item_of (head c.args.nodes.now.heads.now x) ≢ 0)
+    (λ x. (1 ≤ x) × (x < c.args.nodes.now.shape.np + 1) × (item_of (head c.args.nodes.now.heads.now x) ≡ 0) × ((b : ℕ) → 1 ≤ b → b < x → item_of (head c.args.nodes.now.heads.now b) ≢ 0))
 found c =
     let length_at : ℕ → ℕ = λ x. item_of (head c.args.nodes.now.heads.now x) in
     first_from_Range _ _ _ c.find.result (λ x. length_at x ≡ 0) (λ x. length_at x ≢ 0) c.find.ensures.ran (λ x q e. search rules) (λ x q e. search rules)

@@ -5,7 +5,7 @@ use Rattle.rules.specs.declared.answer.Cause.TheVariants.{Redundant, Blocked}
 use Rattle.links.specs.Ground.{Ground}
 use Rattle.links.specs.Plan.{Header}
 use Rattle.links.proofs.Endings.{at_some, at_none}
-use Rattle.links.proofs.SameNodes.{same-then}
+use Rattle.links.proofs.SameNodes.{same-then, same-np}
 use Rattle.showing.specs.Showing.{state_of}
 use Rattle.preproc.specs.Standing.{Standing, Figured}
 use Rattle.preproc.specs.Stopping.{stopping}
@@ -17,37 +17,37 @@ use Rattle.preproc.proofs.step.reduce_options.Goals.{After-because, After-becaus
 
 -- Hiding the item empties a column: what the removal leaves, whichever way it ends.
 removed : (c : After-because) (g : Ground) → Standing g c.args.nodes.now.heads.now c.args.nodes.now.up.now c.args.nodes.now.down.now c.args.tints.now c.args.marks.now
-    → Figured g.plan c.args.nodes.now.start c.args.nodes.now.np → c.column_of-c.result ≡ c.args.item.0 + 1 → Header g.plan (c.args.item.0 + 1)
+    → Figured g.plan c.args.nodes.now.shape → c.column_of-c.result ≡ c.args.item.0 + 1 → Header g.plan (c.args.item.0 + 1)
     → (z : ℕ) × (c.because.result ≡ stopping z Redundant)
-    × Came g.plan (item_step c.args.nodes.now.np c.args.item.0 (state_of g)) z Redundant true
+    × Came g.plan (item_step c.args.nodes.now.shape.np c.args.item.0 (state_of g)) z Redundant true
     c.remove_item.new.nodes.heads.now c.remove_item.new.nodes.up.now c.remove_item.new.nodes.down.now c.args.tints.now c.args.marks.now
 removed c g s f e d =
     let i = c.args.item.0 in
     let kept = same-then c.hide.ensures.nodes c.unhide.ensures.nodes in
     let k = step-column i s f e d in
     let h = at_some (c.hide.ensures.taken g k s.holds) c.in-Some.is in
-    let w = c.unhide.ensures.back g (rw c.hide.ensures.nodes.start k) h.0.holds in
-    let r = c.remove_item.ensures.removed g (rw kept.start (step-removing i s f e d h.0 h.1 w)) in
-    (r.0, c.because.ensures r.0 r.1, step-removed i s f e d h.0 h.1 (removed-np kept.np r.2))
+    let w = c.unhide.ensures.back g (rw c.hide.ensures.nodes.shape k) h.0.holds in
+    let r = c.remove_item.ensures.removed g (rw kept.shape (step-removing i s f e d h.0 h.1 w)) in
+    (r.0, c.because.ensures r.0 r.1, step-removed i s f e d h.0 h.1 (removed-np (same-np kept) r.2))
 
 -- It empties none: what the deletion leaves.
 deleted : (c : After-because-2) (g : Ground) → Standing g c.args.nodes.now.heads.now c.args.nodes.now.up.now c.args.nodes.now.down.now c.args.tints.now c.args.marks.now
-    → Figured g.plan c.args.nodes.now.start c.args.nodes.now.np → c.column_of-c.result ≡ c.args.item.0 + 1 → Header g.plan (c.args.item.0 + 1)
+    → Figured g.plan c.args.nodes.now.shape → c.column_of-c.result ≡ c.args.item.0 + 1 → Header g.plan (c.args.item.0 + 1)
     → (z : ℕ) × (c.because-2.result ≡ stopping z Blocked)
-    × Came g.plan (item_step c.args.nodes.now.np c.args.item.0 (state_of g)) z Blocked (is_some c.condemn-last.result)
+    × Came g.plan (item_step c.args.nodes.now.shape.np c.args.item.0 (state_of g)) z Blocked (is_some c.condemn-last.result)
     c.delete_condemned.new.nodes.heads.now c.delete_condemned.new.nodes.up.now c.delete_condemned.new.nodes.down.now c.condemn-last.new.tints c.condemn-last.new.marks
 deleted c g s f e d =
     let i = c.args.item.0 in
     let n = c.hide.ensures.nodes in
     let kept = same-then n c.condemn-last.ensures.nodes in
-    let np = (same-then kept c.unhide-2.ensures.nodes).np in
+    let all = same-then kept c.unhide-2.ensures.nodes in
     let h = at_none (c.hide.ensures.taken g (step-column i s f e d) s.holds) c.in_default.is in
-    let t = c.condemn-last.ensures.found g i (rw (n.start, n.np) (step-search i s f e d h refl)) (step-hiding i s f e d h refl) in
+    let t = c.condemn-last.ensures.found g i (rw n.shape (step-search i s f e d h refl)) (step-hiding i s f e d h refl) in
     let o = c.condemn-last.ensures.same in
-    let u = tried-np n.np t.2 in
-    let v = c.unhide-2.ensures.back g (rw kept.start (step-column-again i s f e d h refl u)) (held_same h.holds o.0 o.1 o.2) in
-    let r = c.delete_condemned.ensures.deleted g i t.0 t.1 (rw np (step-sparing i s f e d h refl u v)) in
-    (r.0, c.because-2.ensures r.0 r.1, step-deleted i s f e d h refl u (spared-np np r.2) _ (some-found t.1) (none-found t.1))
+    let u = tried-np (same-np n) t.2 in
+    let v = c.unhide-2.ensures.back g (rw kept.shape (step-column-again i s f e d h refl u)) (held_same h.holds o.0 o.1 o.2) in
+    let r = c.delete_condemned.ensures.deleted g i t.0 t.1 (rw all.shape (step-sparing i s f e d h refl u v)) in
+    (r.0, c.because-2.ensures r.0 r.1, step-deleted i s f e d h refl u (spared-np (same-np all) r.2) _ (some-found t.1) (none-found t.1))
 
 pub remove_item-requires : goal.remove_item-requires
 remove_item-requires c =
@@ -56,8 +56,8 @@ remove_item-requires c =
     let e = c.column_of-c.ensures in
     let k = step-column i q.1 q.2 e q.3 in
     let h = at_some (c.hide.ensures.taken q.0 k q.1.holds) c.in-Some.is in
-    let w = c.unhide.ensures.back q.0 (rw c.hide.ensures.nodes.start k) h.0.holds in
-    (q.0, rw (same-then c.hide.ensures.nodes c.unhide.ensures.nodes).start (step-removing i q.1 q.2 e q.3 h.0 h.1 w))
+    let w = c.unhide.ensures.back q.0 (rw c.hide.ensures.nodes.shape k) h.0.holds in
+    (q.0, rw (same-then c.hide.ensures.nodes c.unhide.ensures.nodes).shape (step-removing i q.1 q.2 e q.3 h.0 h.1 w))
 
 pub returns-in_err-because-clause-step : goal.returns-in_err-because-clause-step
 returns-in_err-because-clause-step c =
@@ -76,11 +76,11 @@ delete_condemned-requires c =
     let n = c.hide.ensures.nodes in
     let kept = same-then n c.condemn-last.ensures.nodes in
     let h = at_none (c.hide.ensures.taken q.0 (step-column i q.1 q.2 e q.3) q.1.holds) c.in_default.is in
-    let t = c.condemn-last.ensures.found q.0 i (rw (n.start, n.np) (step-search i q.1 q.2 e q.3 h refl)) (step-hiding i q.1 q.2 e q.3 h refl) in
+    let t = c.condemn-last.ensures.found q.0 i (rw n.shape (step-search i q.1 q.2 e q.3 h refl)) (step-hiding i q.1 q.2 e q.3 h refl) in
     let o = c.condemn-last.ensures.same in
-    let u = tried-np n.np t.2 in
-    let v = c.unhide-2.ensures.back q.0 (rw kept.start (step-column-again i q.1 q.2 e q.3 h refl u)) (held_same h.holds o.0 o.1 o.2) in
-    (q.0, i, t.0, t.1, rw (same-then kept c.unhide-2.ensures.nodes).np (step-sparing i q.1 q.2 e q.3 h refl u v))
+    let u = tried-np (same-np n) t.2 in
+    let v = c.unhide-2.ensures.back q.0 (rw kept.shape (step-column-again i q.1 q.2 e q.3 h refl u)) (held_same h.holds o.0 o.1 o.2) in
+    (q.0, i, t.0, t.1, rw (same-then kept c.unhide-2.ensures.nodes).shape (step-sparing i q.1 q.2 e q.3 h refl u v))
 
 pub returns-in_err-because-2-clause-step : goal.returns-in_err-because-2-clause-step
 returns-in_err-because-2-clause-step c =

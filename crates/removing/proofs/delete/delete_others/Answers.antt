@@ -24,8 +24,8 @@ sits : (c : In-Some) (g : Ground) → in_nodes (Deleting g c.args.r) c.args.node
 sits c g d = midway-sits d (c.loop-q.invariant.1 g d).2 c.loop-q-test.true (some c)
 
 taken_out : (c : After-take_out) (g : Ground) → in_nodes (Sitting (taken g (walked g c.args.r c.loop-q.q)) c.loop-q.q) c.loop-q.nodes
-    → (z : ℕ) × (c.take_out.result ≡ ending z) × in_nodes (Deleted (taken g (walked g c.args.r c.loop-q.q)) c.args.nodes.now.np (c.loop-q.q ∷ [])) c.take_out.new.nodes z
-taken_out c g s = rw c.loop-q.invariant.0.np at (c.take_out.ensures.deleted (taken g (walked g c.args.r c.loop-q.q)) s)
+    → (z : ℕ) × (c.take_out.result ≡ ending z) × in_nodes (Deleted (taken g (walked g c.args.r c.loop-q.q)) c.args.nodes.now.shape.np (c.loop-q.q ∷ [])) c.take_out.new.nodes z
+taken_out c g s = rw c.loop-q.invariant.0.shape at (c.take_out.ensures.deleted (taken g (walked g c.args.r c.loop-q.q)) s)
 
 pub loop-q-smaller-in-None : goal.loop-q-smaller-in-None
 loop-q-smaller-in-None c =

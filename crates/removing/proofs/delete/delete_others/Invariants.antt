@@ -12,7 +12,7 @@ use Rattle.removing.proofs.delete.delete_others.Given as goal
 abbrev pub invariant-loop-q : goal.invariant-loop-q
 invariant-loop-q l =
     SameNodes l.fn.nodes l.nodes
-    × ((g : Ground) → in_nodes (Deleting g l.r) l.fn.nodes → (z : ℕ) × (l.ended ≡ ending z) × in_nodes (Midway g l.r l.fn.nodes.np) l.nodes l.q z)
+    × ((g : Ground) → in_nodes (Deleting g l.r) l.fn.nodes → (z : ℕ) × (l.ended ≡ ending z) × in_nodes (Midway g l.r l.fn.nodes.shape.np) l.nodes l.q z)
 
 abbrev pub decreases-loop-q : goal.decreases-loop-q
 decreases-loop-q l = way (length l.fn.nodes.heads.now) l.r l.q

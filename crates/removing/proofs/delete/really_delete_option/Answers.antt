@@ -15,4 +15,4 @@ returns-clause-deleted c =
     λ g d w.
     let o = c.delete_others-others.ensures.deleted g d in
     let t = c.take_out-own.ensures.deleted (taken g (others g c.args.r)) (whole-sits d w o.2) in
-    (earlier o.0 t.0, c.and.ensures ∙ ending-and o.0 t.0 o.1 t.1, whole-last d w o.2 (rw c.delete_others-others.ensures.nodes.np at t.2))
+    (earlier o.0 t.0, c.and.ensures ∙ ending-and o.0 t.0 o.1 t.1, whole-last d w o.2 (rw c.delete_others-others.ensures.nodes.shape at t.2))

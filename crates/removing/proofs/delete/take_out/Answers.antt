@@ -3,6 +3,7 @@
 use Rattle.std.proofs.Common.{inl, inr, refl, arith, ◌∙◌}
 use borrow.Author.Tests.{le-leb, lt-leb}
 use Rattle.links.proofs.Endings.{ending_of}
+use Rattle.links.proofs.SameNodes.{same-np}
 use Rattle.removing.proofs.TakingOut.{sits-in, sits-number, sits-column, sits-length, out-emptied, out-not}
 use Rattle.removing.proofs.delete.take_out.Goals as goal
 use Rattle.removing.proofs.delete.take_out.Goals.{else-fewer-eq0-via-then-fewer-eq0+else-i-nodes, else-fewer-eq0-via-else-fewer-eq0}
@@ -24,7 +25,7 @@ returns-then-i-nodes-clause-deleted c =
       c.column_at-i.result,
       ending_of _ _ c.item_of_column.ensures,
       out-emptied w c.column_at-i.ensures (rw out.heads at few.heads) (few.up ∙ out.up) (few.down ∙ out.down) (rw out.heads at few.length) c.if-fewer-eq0.true
-          (le-leb c.column_at-i.result c.args.nodes.now.np (omega (arith, c.if-i-nodes.true, few.nodes.np, out.nodes.np))),
+          (le-leb c.column_at-i.result c.args.nodes.now.shape.np (omega (arith, c.if-i-nodes.true, same-np few.nodes, same-np out.nodes))),
     )
 
 pub returns-clause-deleted : goal.returns-clause-deleted
@@ -36,7 +37,7 @@ returns-clause-deleted c =
       refl,
       out-not w c.column_at-i.ensures (rw out.heads at few.heads) (few.up ∙ out.up) (few.down ∙ out.down) (rw out.heads at few.length)
           (elim c.else-fewer-eq0.branch [
-            | else-fewer-eq0-via-then-fewer-eq0+else-i-nodes v ↦ inr (lt-leb c.column_at-i.result c.args.nodes.now.np (omega (arith, v.if-i-nodes.false, few.nodes.np, out.nodes.np)))
+            | else-fewer-eq0-via-then-fewer-eq0+else-i-nodes v ↦ inr (lt-leb c.column_at-i.result c.args.nodes.now.shape.np (omega (arith, v.if-i-nodes.false, same-np few.nodes, same-np out.nodes)))
             | else-fewer-eq0-via-else-fewer-eq0 v ↦ inl v.if-fewer-eq0.false
           ]),
     )

@@ -19,17 +19,17 @@ abbrev midst_in : Ground → ℕ → ℕ → ℕ → Nodes → Ground
 midst_in g c p r n = midst g c p r n.heads.now n.up.now n.down.now
 
 -- at a node of the column: the walk has not ended, its option may be deleted, and what came of that
-behind : (c : In-loop-nodes) → c.args.nodes.now.start ≤ c.loop-nodes.r
-behind c = rw c.loop-nodes.invariant.0.start at c.loop-nodes-test.true
+behind : (c : In-loop-nodes) → c.args.nodes.now.shape.start ≤ c.loop-nodes.r
+behind c = rw c.loop-nodes.invariant.0.shape at c.loop-nodes-test.true
 
-deletes : (c : In-loop-nodes) (g : Ground) → in_nodes (Removing g c.args.c c.args.p c.args.nodes.now.start) c.args.nodes.now
+deletes : (c : In-loop-nodes) (g : Ground) → in_nodes (Removing g c.args.c c.args.p c.args.nodes.now.shape.start) c.args.nodes.now
     → in_nodes (Deleting (midst_in g c.args.c c.args.p c.loop-nodes.r c.loop-nodes.nodes) c.loop-nodes.r) c.loop-nodes.nodes
 deletes c g q = remove-deletes q (c.loop-nodes.invariant.1 g q) (behind c)
 
 dropped : (c : After-delete_or_shorten) (g : Ground) → in_nodes (Deleting (midst_in g c.args.c c.args.p c.loop-nodes.r c.loop-nodes.nodes) c.loop-nodes.r) c.loop-nodes.nodes
     → (z : ℕ) × (c.delete_or_shorten.result ≡ ending z)
-    × in_nodes (Dropped (midst_in g c.args.c c.args.p c.loop-nodes.r c.loop-nodes.nodes) c.args.nodes.now.np c.loop-nodes.r c.args.p) c.delete_or_shorten.new.nodes z
-dropped c g d = rw c.loop-nodes.invariant.0.np at (c.delete_or_shorten.ensures.dropped (midst_in g c.args.c c.args.p c.loop-nodes.r c.loop-nodes.nodes) d)
+    × in_nodes (Dropped (midst_in g c.args.c c.args.p c.loop-nodes.r c.loop-nodes.nodes) c.args.nodes.now.shape.np c.loop-nodes.r c.args.p) c.delete_or_shorten.new.nodes z
+dropped c g d = rw c.loop-nodes.invariant.0.shape at (c.delete_or_shorten.ensures.dropped (midst_in g c.args.c c.args.p c.loop-nodes.r c.loop-nodes.nodes) d)
 
 pub loop-nodes-init : goal.loop-nodes-init
 loop-nodes-init c = (same-refl c.args.nodes.now, λ g q. rw c.below-r.ensures.node (remove-begin q))
@@ -65,4 +65,4 @@ loop-nodes-preserved c =
 pub returns-clause-removed : goal.returns-clause-removed
 returns-clause-removed c =
     let o = c.clear_column.ensures in
-    λ g q. (0, refl, remove-end q (c.loop-nodes.invariant.1 g q) (rw c.loop-nodes.invariant.0.start at c.loop-nodes-test.false) o.heads o.up o.down)
+    λ g q. (0, refl, remove-end q (c.loop-nodes.invariant.1 g q) (rw c.loop-nodes.invariant.0.shape at c.loop-nodes-test.false) o.heads o.up o.down)

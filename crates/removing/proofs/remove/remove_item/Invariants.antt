@@ -10,7 +10,7 @@ use Rattle.removing.proofs.remove.remove_item.Given as goal
 abbrev pub invariant-loop-nodes : goal.invariant-loop-nodes
 invariant-loop-nodes l =
     SameNodes l.fn.nodes l.nodes
-    × ((g : Ground) → in_nodes (Removing g l.c l.p l.fn.nodes.start) l.fn.nodes → in_nodes (AtNode g l.c l.p l.fn.nodes.np) l.nodes l.r)
+    × ((g : Ground) → in_nodes (Removing g l.c l.p l.fn.nodes.shape.start) l.fn.nodes → in_nodes (AtNode g l.c l.p l.fn.nodes.shape.np) l.nodes l.r)
 
 abbrev pub decreases-loop-nodes : goal.decreases-loop-nodes
-decreases-loop-nodes l = left (length l.fn.nodes.heads.now) l.fn.nodes.start l.r
+decreases-loop-nodes l = left (length l.fn.nodes.heads.now) l.fn.nodes.shape.start l.r

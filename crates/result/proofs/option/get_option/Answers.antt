@@ -15,7 +15,7 @@ column-column-requires c = let p = c.requires in reading-heads p.3 (c.loop-k.inv
 pub item_of_column-requires : goal.item_of_column-requires
 item_of_column-requires c =
     let p = c.requires in
-    let b = reading-column p.3 (c.loop-k.invariant.4 p.0 p.1 p.2 p.3) (cc) c.in-Some-column.c (cc) in
+    let b = reading-column p.3 (c.loop-k.invariant.4 p.0 p.1 p.2 p.3) (cc) c.in-Some-column.i (cc) in
     (omega (arith, b), omega (arith, b))
 
 pub bounds-tints-q : goal.bounds-tints-q
@@ -25,7 +25,7 @@ pub put-requires : goal.put-requires
 put-requires c =
     let p = c.requires in
     let b = c.loop-k.invariant.4 p.0 p.1 p.2 p.3 in
-    (reading-items p.3 b (cc) c.in-Some-column.c (cc), reading-colours p.3 b (cc) c.in-Some-column.c (cc))
+    (reading-items p.3 b (cc) c.in-Some-column.i (cc), reading-colours p.3 b (cc) c.in-Some-column.i (cc))
 
 pub overflow_add-q : goal.overflow_add-q
 overflow_add-q c = let p = c.requires in omega (arith, reading-heads p.3 (c.loop-k.invariant.4 p.0 p.1 p.2 p.3))
@@ -38,13 +38,13 @@ loop-k-preserved c =
     let v = c.loop-k.invariant in
     elim c.match-column.branch [
       | in-Some-column w ↦
-          let item : w.item_of_column.result.0 ≡ w.in-Some-column.c - 1 = omega (arith, w.item_of_column.ensures) in
+          let item : w.item_of_column.result.0 ≡ w.in-Some-column.i - 1 = omega (arith, w.item_of_column.ensures) in
           rw w.out-is (
             writer-then v.0 w.put.ensures.lists,
             w.put.ensures.ends ∙ v.1,
             w.put.ensures.numbers ∙ v.2,
             w.put.ensures.option ∙ v.3,
-            λ g old xs d. rw (w.put.ensures.items, w.put.ensures.colours, w.put.ensures.entry, item) (reading-one d (v.4 g old xs d) (cc) w.in-Some-column.c (cc)),
+            λ g old xs d. rw (w.put.ensures.items, w.put.ensures.colours, w.put.ensures.entry, item) (reading-one d (v.4 g old xs d) (cc) w.in-Some-column.i (cc)),
           )
       | in_default-column w ↦ rw w.out-is (v.0, v.1, v.2, v.3, λ g old xs d. reading-over d (v.4 g old xs d) (cc) (cc))
     ]

@@ -17,4 +17,4 @@ invariant-loop-r l =
     → AtEntry g old (lists_of l.out) xs l.c l.out.option l.out.entry l.r)
 
 abbrev pub decreases-loop-r : goal.decreases-loop-r
-decreases-loop-r l = left (length l.nodes.heads.now) l.nodes.start l.r
+decreases-loop-r l = left (length l.nodes.heads.now) l.nodes.shape.start l.r

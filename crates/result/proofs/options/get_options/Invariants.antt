@@ -12,5 +12,5 @@ abbrev pub invariant-loop-item : goal.invariant-loop-item
 invariant-loop-item l =
     SameWriter l.initial.out l.out
     × ((g : Ground) → NodesRead g l.nodes l.tints
-    → LongEnough (results_of l.nodes.n (shown g.plan g.on)) (lists_of l.initial.out)
+    → LongEnough (results_of l.nodes.shape.n (shown g.plan g.on)) (lists_of l.initial.out)
     → Written (lists_of l.initial.out) (lists_of l.out) (options_to g l.item) l.out.option l.out.entry)

@@ -3,5 +3,5 @@ use Rattle.std.proofs.Common.{arith}
 use Rattle.room.proofs.Remade.{remade}
 use Rattle.room.proofs.clear.clear.Goals as goal
 
-pub loop-i-preserved : goal.loop-i-preserved
-loop-i-preserved g c = rw c.loop-i.invariant (remade (λ x. c.args.zero) c.args.list.now c.loop-i.i c.args.zero (omega arith))
+pub loop-place-preserved : goal.loop-place-preserved
+loop-place-preserved g c = rw c.loop-place.invariant (remade (λ x. c.args.zero) c.args.list.now c.loop-place.place c.args.zero (omega arith))
