@@ -19,7 +19,7 @@ use Rattle.links.proofs.Stores.{same?, less?}
 use Rattle.links.proofs.Plans.{entry_row, before-no-entry}
 use Rattle.theorems.proofs.Words.Lists.{keep_append}
 use Rattle.showing.proofs.Gathered.{up_to-end}
-use Rattle.condemning.specs.Search.{down_to, Chain}
+use Rattle.condemning.specs.Condemning.{down_to, Chain}
 
 -- Those found below a node
 

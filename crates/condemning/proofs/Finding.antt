@@ -12,15 +12,15 @@ use Rattle.links.specs.Ground.{Ground, Tidy}
 use Rattle.links.proofs.Plans.{header-before}
 use Rattle.links.proofs.Descending.{Stand, reach, reach-at, left, stand-in, stand-next, step_less}
 use Rattle.showing.proofs.HiddenStates.{hiding, hiding-tidy}
-use Rattle.condemning.specs.Search.{Chain, Search, Hiding, Tried, Trying}
-use Rattle.condemning.proofs.Searching.{search-stand, next-same, first-none, stand-column}
+use Rattle.condemning.specs.Condemning.{Chain, BeforeHiding, Hiding, Tried, Trying}
+use Rattle.condemning.proofs.WhileHidden.{hidden-stand, next-same, first-none, stand-column}
 
 -- The walk is at r, a node of the column or its header again, and the options above are tested.
 pub record Found (g : Ground) (i np z : ℕ) (tints marks : List ℕ) (r : ℕ) : Type 0 where
   pub stand : Stand (hiding g i) (i + 1) r
   pub tried : Tried g i np (reach g.plan r) z tints marks
 
-module _ {g : Ground} {i c : ℕ} {shape : Shape} {heads : List ℤ} {up down tints₀ marks₀ : List ℕ} (s : Search g i c shape) (w : Hiding g i heads up down tints₀ marks₀) where
+module _ {g : Ground} {i c : ℕ} {shape : Shape} {heads : List ℤ} {up down tints₀ marks₀ : List ℕ} (s : BeforeHiding g i c shape) (w : Hiding g i heads up down tints₀ marks₀) where
   own : Header g.plan (i + 1)
   own = subst (Header g.plan) s.column s.header
 
@@ -35,7 +35,7 @@ module _ {g : Ground} {i c : ℕ} {shape : Shape} {heads : List ℤ} {up down ti
 
   pub find-begin : Found g i shape.np 0 tints₀ marks₀ (at down c)
   find-begin = rw (w.holds.down-are, s.column) (record {
-    stand = search-stand g s.ready i own shape.np;
+    stand = hidden-stand g s.ready i own shape.np;
     tried = record { tinted = w.tinted; known = w.known; chain = subst (Chain g.plan tints₀ 0) (sym (first-none g s.ready i own shape.np)) refl };
   })
 

@@ -1,7 +1,7 @@
 pub mod Marking
 pub mod Chains
 pub mod Knowing
-pub mod Searching
+pub mod WhileHidden
 pub mod Sparing
 pub mod Trying
 pub mod Finding

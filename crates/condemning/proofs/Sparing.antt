@@ -28,7 +28,7 @@ use Rattle.showing.proofs.Deleted.{deletes-fresh, condemned-apart}
 use Rattle.removing.specs.Deleting.{Deleting, Deleted}
 use Rattle.removing.proofs.Emptying.{first_some, first-none}
 use Rattle.links.specs.Lead.{Led, Leads}
-use Rattle.condemning.specs.Search.{down_to, Chain, Sparing, Spared}
+use Rattle.condemning.specs.Condemning.{down_to, Chain, Sparing, Spared}
 
 -- the list falls: it is empty, or it has a first element, and behind it those below that
 pub down-front : (f : ℕ → Bool) (k : ℕ) → (down_to f k ≡ []) ⊎ ((x : ℕ) × (x < k) × (f x ≡ true) × (down_to f k ≡ x ∷ down_to f x))

@@ -24,9 +24,9 @@ use Rattle.showing.proofs.HiddenStates.{hiding, hiding-tidy}
 use Rattle.blocking.specs.Forward.{Test}
 use Rattle.links.specs.Lead.{Led, Leads}
 use Rattle.condemning.specs.Marks.{Known, Marking}
-use Rattle.condemning.specs.Search.{Chain, Tried, Trying}
+use Rattle.condemning.specs.Condemning.{Chain, Tried, Trying}
 use Rattle.links.proofs.Taken.{holds-after}
-use Rattle.condemning.proofs.Searching.{hidden-known, search-led, search-marking, search-tested, led-first, led-before, coloured-not, later-not, tested-is, tried-not, tried-yes}
+use Rattle.condemning.proofs.WhileHidden.{hidden-known, hidden-led, hidden-marking, hidden-tested, led-first, led-before, coloured-not, later-not, tested-is, tried-not, tried-yes}
 use Rattle.condemning.proofs.Sparing.{down-front}
 
 -- The option of r is tested: the node q leads it and has no item, r is uncoloured, and its items are marked.
@@ -53,7 +53,7 @@ module _ {g : Ground} {i r : ℕ} {shape : Shape} {z : ℕ} {heads : List ℤ} {
 
   -- the walk back
   pub try-led : Led (hiding g i) r heads down
-  try-led = search-led g t.ready i r t.column t.holds
+  try-led = hidden-led g t.ready i r t.column t.holds
 
   module _ {q : ℕ} (l : Leads (hiding g i) r q) where
     pub try-item : q < length heads
@@ -70,7 +70,7 @@ module _ {g : Ground} {i r : ℕ} {shape : Shape} {z : ℕ} {heads : List ℤ} {
     live f = sym first-is ∙ eq-eqb (item_of (head heads q)) 0 f
 
     pub try-marking : item_of (head heads q) ≡ 0 → Marking (hiding g i) g.on r heads marks
-    try-marking f = search-marking g t.ready i r t.column t.holds (live f) marks t.tried.known
+    try-marking f = hidden-marking g t.ready i r t.column t.holds (live f) marks t.tried.known
 
     pub try-place : q < length tints
     try-place = omega (arith, l.inside, t.tried.tinted.room)
@@ -87,7 +87,7 @@ module _ {g : Ground} {i r : ℕ} {shape : Shape} {z : ℕ} {heads : List ℤ} {
     marked-tried = record { tinted = t.tried.tinted; known = hidden-known g t.ready i marks' x.known; chain = t.tried.chain }
 
     pub try-test : Test (hiding g i) tints marks' r shape
-    try-test = record { tested = search-tested g t.ready i r t.column plain; tinted = t.tried.tinted; marked = x.marked; starts = t.begins; few = t.few }
+    try-test = record { tested = hidden-tested g t.ready i r t.column plain; tinted = t.tried.tinted; marked = x.marked; starts = t.begins; few = t.few }
 
     pub try-no : node_blocked (hiding g i) r shape.np ≡ false → Tried g i shape.np (r + 1) z tints marks'
     try-no b = tried-not g t.ready i r t.column shape.np (tested ∙ b) marked-tried

@@ -3,7 +3,7 @@ ghost use Rattle.std.specs.Prelude.{◌≡◌, ℕ, ◌+◌};
 ghost use Rattle.links.specs.Ending.{ending};
 ghost use Rattle.links.specs.Ground.{Ground};
 ghost use Rattle.links.specs.Nodes.{in_nodes, SameNodes, Untouched, column};
-ghost use Rattle.condemning.specs.Search.{Search, Hiding, Tried, Trying, Sparing, Spared};
+ghost use Rattle.condemning.specs.Condemning.{BeforeHiding, Hiding, Tried, Trying, Sparing, Spared};
 
 use crate::chain::{chain, chained};
 use crate::mark::mark_items;
@@ -46,11 +46,11 @@ fn test_at(
 
 // All tests for item c, while it is hidden; the last option found blocked.
 pub fn condemn(nodes: &mut Nodes, tints: &mut [u32], marks: &mut [u32], c: usize) -> Option<usize>
-    requires { (g : Ground) × (i : ℕ) × Search g i c nodes.old.shape
+    requires { (g : Ground) × (i : ℕ) × BeforeHiding g i c nodes.old.shape
         × in_nodes (Hiding g i) nodes.old tints.old marks.old }
     ensures nodes { SameNodes nodes.old nodes.new }
     ensures same { Untouched nodes.old nodes.new }
-    ensures found { (g : Ground) (i : ℕ) → Search g i c nodes.old.shape
+    ensures found { (g : Ground) (i : ℕ) → BeforeHiding g i c nodes.old.shape
         → in_nodes (Hiding g i) nodes.old tints.old marks.old
         → (w : ℕ) × (result ≡ column w) × Tried g i nodes.old.shape.np g.plan.N w tints.new marks.new }
 {

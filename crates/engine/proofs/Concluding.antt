@@ -3,10 +3,10 @@ use Prim.Native.Nat.{ℕ, ◌+◌, ◌<◌, ◌≤◌}
 use native.Mathlib.Omega.{arith}
 use mathlib.Core.Path.{◌≡◌, refl, ◌∙◌, ap, sym, subst}
 use Rattle.rules.specs.Bounds.{node_bound}
-use mathlib.Core.Bool.{Bool, false, not, ◌||◌}
+use mathlib.Core.Bool.{Bool, false, not}
 use mathlib.Core.List.{List}
 use mathlib.Core.Option.{none}
-use lib.Dec.{T, ltb, nltb→le}
+use lib.Dec.{T}
 use lib.ListN.{length}
 use Rattle.rules.specs.Problem.{Problem, figures, problem_of}
 use Rattle.rules.specs.Rooms.{Room, Results, Handed}
@@ -16,7 +16,7 @@ use Rattle.rules.specs.Rounds.{Finding, reduced, infeasible, reduce}
 use Rattle.rules.specs.Result.{results_of}
 use Rattle.rules.specs.Outcome.{cleared, fronts, said_of, concluded}
 use Rattle.rules.specs.Paper.{Said, said_infeasible}
-use Rattle.theorems.proofs.Words.Tests.{T-nor}
+use Rattle.theorems.proofs.Words.Tests.{five-suffice}
 use Rattle.theorems.proofs.Checks.Accept.{ChecksPassed, passed}
 use Rattle.theorems.proofs.Answers.Bounds.{ReducedWithin, Within, bounds}
 use Rattle.building.specs.Layout.{plan_for, plan_of}
@@ -54,21 +54,8 @@ pub record Spacious (n E M : ℕ) (r : Results) : Type 0 where
 pub spacious : (n E M : ℕ) (r : Results) → T (not (short_results n E M r)) → Spacious n E M r
 unfolding short_results
 spacious n E M r t =
-    let a = ltb (length r.kept) n in
-    let b = ltb (length r.ends) M in
-    let c = ltb (length r.numbers) M in
-    let d = ltb (length r.items) E in
-    let e = T-nor (((a || b) || c) || d) (ltb (length r.colours) E) t in
-    let f = T-nor ((a || b) || c) d e.0 in
-    let g = T-nor (a || b) c f.0 in
-    let h = T-nor a b g.0 in
-    record {
-      kept = nltb→le (length r.kept) n h.0;
-      ends = nltb→le (length r.ends) M h.1;
-      numbers = nltb→le (length r.numbers) M g.1;
-      items = nltb→le (length r.items) E f.1;
-      colours = nltb→le (length r.colours) E e.1;
-    }
+    let w = five-suffice (length r.kept) (length r.ends) (length r.numbers) (length r.items) (length r.colours) t in
+    record { kept = w.0; ends = w.1; numbers = w.2; items = w.3; colours = w.4 }
 
 -- no check refuses what is handed
 pub record TakenIn (h : Handed) : Type 0 where

@@ -5,7 +5,7 @@ use native.Mathlib.Omega.{arith}
 use mathlib.Core.Path.{◌≡◌, refl, ◌∙◌, ap, sym, subst}
 use Rattle.rules.specs.Bounds.{node_bound}
 use mathlib.Core.Logic.{⊎_elim, ◌≢◌}
-use mathlib.Core.Bool.{true≢false}
+use mathlib.Core.Bool.{true, false, true≢false}
 use mathlib.Core.List.Memᴰ
 use mathlib.Core.List.Memᴰ.{head as here}
 use mathlib.Core.List.Memᴰ.{not-nil}
@@ -31,8 +31,8 @@ use Rattle.hiding.proofs.Rises.{rising-once, rising-next, rising-fresh}
 pub all_back : (g : Ground) {heads : List ℤ} {up down : List ℕ} → Away g [] heads up down → Holds g heads up down
 all_back g {heads} {up} {down} k = record {
   heads-are = k.heads-are;
-  up-are = ext_get_or 0 up g.up k.ups (λ y l. k.up_to y not-nil);
-  down-are = ext_get_or 0 down g.down k.downs (λ y l. k.down_kept y not-nil);
+  up-are = ext_get_or 0 up g.up k.ups (λ y l. k.up-kept y not-nil);
+  down-are = ext_get_or 0 down g.down k.downs (λ y l. k.down-kept y not-nil);
 }
 
 none-away : (g : Ground) → Away g [] g.heads g.up g.down
@@ -42,8 +42,8 @@ none-away g = record {
   downs = refl;
   up-off = λ y o. refl;
   down-off = λ y o. refl;
-  up_to = λ y n. refl;
-  down_kept = λ y n. refl;
+  up-kept = λ y n. refl;
+  down-kept = λ y n. refl;
   down-own = λ y m. refl;
 }
 
@@ -80,8 +80,8 @@ module _ (g : Ground) (t : Tidy g) (x : ℕ) (xs : List ℕ) (r : Rising g (x �
       downs = k.downs ∙ length-set g.down _ _;
       up-off = λ y o. k.up-off y (without-off g.on x y o) ∙ cut-up-off g t x w y o;
       down-off = λ y o. k.down-off y (without-off g.on x y o) ∙ cut-down-off g t x w y o;
-      up_to = λ y n. let s = up_same y n in k.up_to y (λ m. n (next (Memᴰ.cast (sym s) m))) ∙ s;
-      down_kept = λ y n. let s = down-same y n in k.down_kept y (λ m. n (next (Memᴰ.cast (sym s) m))) ∙ s;
+      up-kept = λ y n. let s = up_same y n in k.up-kept y (λ m. n (next (Memᴰ.cast (sym s) m))) ∙ s;
+      down-kept = λ y n. let s = down-same y n in k.down-kept y (λ m. n (next (Memᴰ.cast (sym s) m))) ∙ s;
       down-own = own;
     }
       where
@@ -97,7 +97,7 @@ module _ (g : Ground) (t : Tidy g) (x : ℕ) (xs : List ℕ) (r : Rising g (x �
 
     module _ (k : Away g (x ∷ xs) heads up down) where
       up_is : at up x ≡ at g.up x
-      up_is = k.up_to x above-stays
+      up_is = k.up-kept x above-stays
 
       down_is : at down x ≡ at g.down x
       down_is = k.down-own x (here refl)
@@ -118,25 +118,19 @@ module _ (g : Ground) (t : Tidy g) (x : ℕ) (xs : List ℕ) (r : Rising g (x �
       more-in = rw k.heads-are (more-asks g t x w xs (rising-fresh g xs t r.2) (rising-once g x xs r))
 
       -- a link that is not written now: as it was, unless its target is still away
-      kept-up : (y : ℕ) → y ≢ at g.down x → (In (at g.up y) xs → ⊥) → at up y ≡ at g.up y
-      kept-up y d n = ⊎_elim own (λ q. k.up_to y (either q)) (same? (at g.up y) x)
+      kept : (was now : List ℕ) (y z : ℕ) → ((In (at was y) (x ∷ xs) → ⊥) → at now y ≡ at was y) → (g.on y ≡ false → at now y ≡ at was y)
+          → (g.on y ≡ true → at was y ≡ x → y ≡ z) → y ≢ z → (In (at was y) xs → ⊥) → at now y ≡ at was y
+      kept was now y z to off tied d n = ⊎_elim (λ q. off (not_so (g.on y) (λ o. d (tied o q)))) (λ q. to (either q)) (same? (at was y) x)
         where
-          either : at g.up y ≢ x → In (at g.up y) (x ∷ xs) → ⊥
+          either : at was y ≢ x → In (at was y) (x ∷ xs) → ⊥
           either q (here e) = q e
           either q (next m) = n m
 
-          own : at g.up y ≡ x → at up y ≡ at g.up y
-          own q = k.up-off y (not_so (g.on y) (λ o. d (sym (t.ring.tied y o).above_down ∙ ap (at g.down) q)))
+      kept-up : (y : ℕ) → y ≢ at g.down x → (In (at g.up y) xs → ⊥) → at up y ≡ at g.up y
+      kept-up y = kept g.up up y (at g.down x) (k.up-kept y) (k.up-off y) (λ o q. sym (t.ring.tied y o).above_down ∙ ap (at g.down) q)
 
       kept-down : (y : ℕ) → y ≢ at g.up x → (In (at g.down y) xs → ⊥) → at down y ≡ at g.down y
-      kept-down y d n = ⊎_elim own (λ q. k.down_kept y (either q)) (same? (at g.down y) x)
-        where
-          either : at g.down y ≢ x → In (at g.down y) (x ∷ xs) → ⊥
-          either q (here e) = q e
-          either q (next m) = n m
-
-          own : at g.down y ≡ x → at down y ≡ at g.down y
-          own q = k.down-off y (not_so (g.on y) (λ o. d (sym (t.ring.tied y o).below_up ∙ ap (at g.up) q)))
+      kept-down y = kept g.down down y (at g.up x) (k.down-kept y) (k.down-off y) (λ o q. sym (t.ring.tied y o).below_up ∙ ap (at g.up) q)
 
       back-links : Away g xs (taken g xs).heads (set up (at g.down x) x) (set down (at g.up x) x)
       back-links = record {
@@ -145,8 +139,8 @@ module _ (g : Ground) (t : Tidy g) (x : ℕ) (xs : List ℕ) (r : Rising g (x �
         downs = length-set down _ _ ∙ k.downs;
         up-off = λ y o. get_or-set_other up (at g.down x) y x 0 (λ e. true≢false (sym tx.below_on ∙ ap g.on (sym e) ∙ o)) ∙ k.up-off y o;
         down-off = λ y o. get_or-set_other down (at g.up x) y x 0 (λ e. true≢false (sym tx.above_on ∙ ap g.on (sym e) ∙ o)) ∙ k.down-off y o;
-        up_to = λ y n. ⊎_elim (λ v. v.1 ∙ sym (ap (at g.up) v.0 ∙ tx.below_up)) (λ v. v.1 ∙ kept-up y v.0 n) (read_set up (at g.down x) x 0 y down-in);
-        down_kept = λ y n. ⊎_elim (λ v. v.1 ∙ sym (ap (at g.down) v.0 ∙ tx.above_down)) (λ v. v.1 ∙ kept-down y v.0 n) (read_set down (at g.up x) x 0 y up_in);
+        up-kept = λ y n. ⊎_elim (λ v. v.1 ∙ sym (ap (at g.up) v.0 ∙ tx.below_up)) (λ v. v.1 ∙ kept-up y v.0 n) (read_set up (at g.down x) x 0 y down-in);
+        down-kept = λ y n. ⊎_elim (λ v. v.1 ∙ sym (ap (at g.down) v.0 ∙ tx.above_down)) (λ v. v.1 ∙ kept-down y v.0 n) (read_set down (at g.up x) x 0 y up_in);
         down-own = λ y m. get_or-set_other down (at g.up x) y x 0 (λ e. above-here (Memᴰ.cast (sym e) m)) ∙ k.down-own y (next m);
       }
 

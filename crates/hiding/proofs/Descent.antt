@@ -54,7 +54,7 @@ module _ {g : Ground} {tints : List ℕ} {c from : ℕ} (w : Column g tints c fr
   column-down : (k : ℕ) {heads : List ℤ} {up down : List ℕ} → Holds (taken g (out k)) heads up down → {p : ℕ} → Stand g c p → at down p ≡ at g.down p
   column-down k h {p} s =
       ap (λ (l : List ℕ). at l p) h.down-are
-      ∙ (away-taken g (out k) t (gathered-rising g w.ready c k)).down_kept p (λ m. gathered-off-column g w.ready c k m (stand-next g t c w.header p s).col)
+      ∙ (away-taken g (out k) t (gathered-rising g w.ready c k)).down-kept p (λ m. gathered-off-column g w.ready c k m (stand-next g t c w.header p s).col)
 
   -- the place is within the lists
   pub within : {heads : List ℤ} {up down : List ℕ} → Holds g heads up down → {rr : ℕ} → Stand g c rr → (rr < length up) × (rr < length down)

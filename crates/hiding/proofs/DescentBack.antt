@@ -43,7 +43,7 @@ module _ {g : Ground} {tints : List ℕ} {c from : ℕ} (w : Column g tints c fr
   -- in column c the links are those of the whole ground
   column-down : (k : ℕ) → k ≤ g.plan.N → {heads : List ℤ} {up down : List ℕ} → Away g (out k) heads up down → {p : ℕ} → Stand g c p → at down p ≡ at g.down p
   column-down k l a {p} s =
-      a.down_kept p (λ m. gathered-off-column g w.ready c g.plan.N
+      a.down-kept p (λ m. gathered-off-column g w.ready c g.plan.N
       (subst (λ (xs : List ℕ). In (at g.down p) xs) (sym (gather-split (hidden g c) g k l)) (In-append-r (gather_to (hidden g c) g k) m)) (stand-next g t c w.header p s).col)
 
   -- where the walk begins, all are away

@@ -20,8 +20,8 @@ pub record Away (g : Ground) (out : List ℕ) (heads : List ℤ) (up down : List
   pub downs : length down ≡ length g.down
   pub up-off : (y : ℕ) → g.on y ≡ false → at up y ≡ at g.up y
   pub down-off : (y : ℕ) → g.on y ≡ false → at down y ≡ at g.down y
-  pub up_to : (y : ℕ) → (In (at g.up y) out → ⊥) → at up y ≡ at g.up y
-  pub down_kept : (y : ℕ) → (In (at g.down y) out → ⊥) → at down y ≡ at g.down y
+  pub up-kept : (y : ℕ) → (In (at g.up y) out → ⊥) → at up y ≡ at g.up y
+  pub down-kept : (y : ℕ) → (In (at g.down y) out → ⊥) → at down y ≡ at g.down y
   pub down-own : (y : ℕ) → In y out → at down y ≡ at g.down y
 
 -- The other entries of rr's option are away, and come back before the rest.

@@ -5,7 +5,7 @@ use Rattle.rules.specs.State.{Step}
 use Rattle.links.specs.Plan.{Plan}
 use Rattle.links.specs.Ground.{Ground}
 use Rattle.removing.specs.Removing.{Removed}
-use Rattle.condemning.specs.Search.{Tried, Spared}
+use Rattle.condemning.specs.Condemning.{Tried, Spared}
 use Rattle.preproc.specs.declared.stop.Stop.{Stop}
 use Rattle.preproc.specs.Standing.{Stepped}
 

@@ -28,7 +28,7 @@ use Rattle.hiding.specs.Hiding.{Column, Taken}
 use Rattle.removing.specs.Removing.{Removing, Removed, removed}
 use Rattle.removing.proofs.Staying.{stays→}
 use Rattle.condemning.specs.Marks.{Known}
-use Rattle.condemning.specs.Search.{down_to, Chain, Search, Hiding, Tried, Sparing, Spared}
+use Rattle.condemning.specs.Condemning.{down_to, Chain, BeforeHiding, Hiding, Tried, Sparing, Spared}
 use Rattle.condemning.proofs.Chains.{down-reverse}
 use Rattle.condemning.proofs.Knowing.{known-pass}
 use Rattle.condemning.proofs.Sparing.{down-front, all-fresh, spared-all}
@@ -111,8 +111,8 @@ module _ {g : Ground} (i : ℕ) {c : ℕ} {shape : Shape} {heads : List ℤ} {up
       quiet : last_out g shape.np (hides g (i + 1)) 0 ≡ 0
       quiet = sym last-is ∙ q
 
-      pub step-search : Search g i c shape
-      step-search = record { ready = s.ready; column = e; header = hd; begins = f.begins; few = f.few }
+      pub step-before : BeforeHiding g i c shape
+      step-before = record { ready = s.ready; column = e; header = hd; begins = f.begins; few = f.few }
 
       pub step-hiding : Hiding g i heads₁ up₁ down₁ tints marks
       step-hiding = record { holds = subst (λ (x : ℕ). Holds (taken g (hides g x)) heads₁ up₁ down₁) e h.holds; tinted = s.tinted; known = s.known }

@@ -1,10 +1,10 @@
 -- Tests that compute, read as facts: conjunction, negation, implication, and the tests on numbers. What the kit has is passed on under the
 -- names used here. Assumes nothing.
-use Prim.Native.Nat.{ℕ}
+use Prim.Native.Nat.{ℕ, ◌≤◌}
 use mathlib.Core.Path.{◌≡◌, refl, sym}
 use mathlib.Core.Logic.{◌⊎◌, inl, inr, ◌≢◌}
 use mathlib.Core.Bool.{Bool, true, false, not, ◌&&◌, ◌||◌}
-use lib.Dec.{T, eqb, eqb→eq}
+use lib.Dec.{T, eqb, eqb→eq, ltb, nltb→le}
 use mir.Facts.{eqb_no, yes_eqb, no_eqb}
 -- m at least n: T (not (ltb m n))
 pub use lib.Arith.{le→nltb}
@@ -61,6 +61,16 @@ nor-T false b s t = t
 pub T-nand : (a b : Bool) → T (not (a && b)) → T a → T (not b)
 T-nand true b t s = t
 T-nand false b t s = absurd s
+
+-- none of five lengths is below what it must be
+pub five-suffice : (a b c d e : ℕ) {i j k l m : ℕ} → T (not ((((ltb a i || ltb b j) || ltb c k) || ltb d l) || ltb e m))
+    → (i ≤ a) × (j ≤ b) × (k ≤ c) × (l ≤ d) × (m ≤ e)
+five-suffice a b c d e {i} {j} {k} {l} {m} t =
+    let w = T-nor (((ltb a i || ltb b j) || ltb c k) || ltb d l) (ltb e m) t in
+    let v = T-nor ((ltb a i || ltb b j) || ltb c k) (ltb d l) w.0 in
+    let u = T-nor (ltb a i || ltb b j) (ltb c k) v.0 in
+    let s = T-nor (ltb a i) (ltb b j) u.0 in
+    (nltb→le a i s.0, nltb→le b j s.1, nltb→le c k u.1, nltb→le d l v.1, nltb→le e m w.1)
 
 -- two tests that imply each other are one
 pub T-same : (a b : Bool) → (T a → T b) → (T b → T a) → a ≡ b

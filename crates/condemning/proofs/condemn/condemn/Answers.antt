@@ -3,7 +3,7 @@ use Rattle.std.proofs.Common.{ℕ, List, ◌+◌, refl, ◌∙◌, sym, ap}
 use mathlib.Core.Path.{subst}
 use Rattle.links.specs.Column.{at}
 use Rattle.links.proofs.SameNodes.{same-refl, same-then, same-np}
-use Rattle.condemning.specs.Search.{Tried}
+use Rattle.condemning.specs.Condemning.{Tried}
 use Rattle.condemning.proofs.Finding.{Found, find-column, find-begin, find-down, find-trying, find-next, find-less}
 use Rattle.condemning.proofs.condemn.condemn.Goals as goal
 

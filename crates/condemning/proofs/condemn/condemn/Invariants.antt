@@ -3,7 +3,7 @@ use Rattle.std.proofs.Common.{◌≡◌, ℕ, length}
 use Rattle.links.specs.Ground.{Ground}
 use Rattle.links.specs.Nodes.{SameNodes, column}
 use Rattle.links.proofs.Descending.{left}
-use Rattle.condemning.specs.Search.{Search, Hiding}
+use Rattle.condemning.specs.Condemning.{BeforeHiding, Hiding}
 use Rattle.condemning.proofs.Finding.{Found}
 use Rattle.condemning.proofs.condemn.condemn.Given as goal
 
@@ -12,7 +12,7 @@ invariant-loop-nodes l =
     let n = l.fn.nodes in
     let m = l.nodes in
     SameNodes n m × (m.heads.now ≡ n.heads.now) × (m.up.now ≡ n.up.now) × (m.down.now ≡ n.down.now)
-    × ((g : Ground) (i : ℕ) → Search g i l.c n.shape → Hiding g i n.heads.now n.up.now n.down.now l.fn.tints l.fn.marks
+    × ((g : Ground) (i : ℕ) → BeforeHiding g i l.c n.shape → Hiding g i n.heads.now n.up.now n.down.now l.fn.tints l.fn.marks
     → (z : ℕ) × (l.stack ≡ column z) × Found g i n.shape.np z l.tints l.marks l.r)
 
 abbrev pub decreases-loop-nodes : goal.decreases-loop-nodes

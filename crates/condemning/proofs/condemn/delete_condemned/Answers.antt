@@ -6,7 +6,7 @@ use Rattle.links.specs.Nodes.{in_nodes, column}
 use Rattle.links.proofs.Endings.{ending_err, at_ok, at_some}
 use Rattle.links.proofs.SameNodes.{same-refl, same-then}
 use Rattle.showing.specs.Showing.{deletes}
-use Rattle.condemning.specs.Search.{Sparing}
+use Rattle.condemning.specs.Condemning.{Sparing}
 use Rattle.condemning.proofs.Chained.{node_in, node_column, at_end}
 use Rattle.condemning.proofs.Sparing.{Onwards, spare-begin, spare-end, spare-deleting, spare-within, spare-stop, spare-onwards}
 use Rattle.condemning.proofs.condemn.delete_condemned.Goals as goal

@@ -2,7 +2,7 @@
 use Rattle.std.proofs.Common.{◌≡◌, ℕ}
 use Rattle.links.specs.Ground.{Ground}
 use Rattle.links.specs.Nodes.{in_nodes, SameNodes, column}
-use Rattle.condemning.specs.Search.{Sparing}
+use Rattle.condemning.specs.Condemning.{Sparing}
 use Rattle.condemning.proofs.Chained.{node_in, DeletesAt}
 use Rattle.condemning.proofs.condemn.delete_condemned.Given as goal
 

@@ -6,7 +6,7 @@ use Rattle.links.specs.Ground.{Ground}
 use Rattle.links.specs.Nodes.{in_nodes}
 use Rattle.links.proofs.Endings.{no-item, some-item, column_of}
 use Rattle.showing.proofs.HiddenStates.{hiding}
-use Rattle.condemning.specs.Search.{Trying}
+use Rattle.condemning.specs.Condemning.{Trying}
 use Rattle.condemning.proofs.Trying.{Testing, try-coloured, try-led, try-item, try-later, try-marking, try-test, try-no, try-yes, try-place, try_holds, try-small, try-node}
 use Rattle.condemning.proofs.condemn.test_at.Goals as goal
 use Rattle.condemning.proofs.condemn.test_at.Goals.{After-mark_items}

@@ -11,7 +11,7 @@ use Rattle.preproc.specs.Standing.{Standing, Figured}
 use Rattle.preproc.specs.Stopping.{stopping}
 use Rattle.preproc.proofs.Coming.{Came, came_ok, came_err, some-found, none-found}
 use Rattle.preproc.proofs.Same.{removed-np, tried-np, spared-np}
-use Rattle.preproc.proofs.Stepping.{held_same, step-column, step-removing, step-removed, step-search, step-hiding, step-column-again, step-sparing, step-deleted}
+use Rattle.preproc.proofs.Stepping.{held_same, step-column, step-removing, step-removed, step-before, step-hiding, step-column-again, step-sparing, step-deleted}
 use Rattle.preproc.proofs.step.reduce_options.Goals as goal
 use Rattle.preproc.proofs.step.reduce_options.Goals.{After-because, After-because-2}
 
@@ -42,7 +42,7 @@ deleted c g s f e d =
     let kept = same-then n c.condemn-last.ensures.nodes in
     let all = same-then kept c.unhide-2.ensures.nodes in
     let h = at_none (c.hide.ensures.taken g (step-column i s f e d) s.holds) c.in_default.is in
-    let t = c.condemn-last.ensures.found g i (rw n.shape (step-search i s f e d h refl)) (step-hiding i s f e d h refl) in
+    let t = c.condemn-last.ensures.found g i (rw n.shape (step-before i s f e d h refl)) (step-hiding i s f e d h refl) in
     let o = c.condemn-last.ensures.same in
     let u = tried-np (same-np n) t.2 in
     let v = c.unhide-2.ensures.back g (rw kept.shape (step-column-again i s f e d h refl u)) (held_same h.holds o.0 o.1 o.2) in
@@ -76,7 +76,7 @@ delete_condemned-requires c =
     let n = c.hide.ensures.nodes in
     let kept = same-then n c.condemn-last.ensures.nodes in
     let h = at_none (c.hide.ensures.taken q.0 (step-column i q.1 q.2 e q.3) q.1.holds) c.in_default.is in
-    let t = c.condemn-last.ensures.found q.0 i (rw n.shape (step-search i q.1 q.2 e q.3 h refl)) (step-hiding i q.1 q.2 e q.3 h refl) in
+    let t = c.condemn-last.ensures.found q.0 i (rw n.shape (step-before i q.1 q.2 e q.3 h refl)) (step-hiding i q.1 q.2 e q.3 h refl) in
     let o = c.condemn-last.ensures.same in
     let u = tried-np (same-np n) t.2 in
     let v = c.unhide-2.ensures.back q.0 (rw kept.shape (step-column-again i q.1 q.2 e q.3 h refl u)) (held_same h.holds o.0 o.1 o.2) in

@@ -21,7 +21,7 @@ Chain P tints z [] = z ≡ 0
 Chain P tints z (r ∷ rs) = (z ≡ r) × Chain P tints (at tints (lo P r - 1)) rs
 
 -- g is the ground before item i, of column c, was hidden
-pub record Search (g : Ground) (i c : ℕ) (shape : Shape) : Type 0 where
+pub record BeforeHiding (g : Ground) (i c : ℕ) (shape : Shape) : Type 0 where
   pub ready : Ready g
   pub column : c ≡ i + 1
   pub header : Header g.plan c

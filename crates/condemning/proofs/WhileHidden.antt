@@ -26,7 +26,7 @@ use Rattle.showing.proofs.HiddenStates.{hiding, hiding-is, hides-fresh, hiding-t
 use Rattle.showing.proofs.TestedNode.{tested-hidden}
 use Rattle.links.specs.Lead.{Led, Leads}
 use Rattle.condemning.specs.Marks.{Known, Marking}
-use Rattle.condemning.specs.Search.{down_to, Chain, Tried}
+use Rattle.condemning.specs.Condemning.{down_to, Chain, Tried}
 use Rattle.condemning.proofs.Chains.{down-yes, down-no, down-same, In-down, tinted-set, chain-push}
 use Rattle.condemning.proofs.Knowing.{known-pass}
 
@@ -73,12 +73,12 @@ module _ (g : Ground) (R : Ready g) (i : ℕ) where
     entry = (column-entry g R.tidy (i + 1) r c).0
 
     -- what the walk back and the marking ask
-    pub search-led : {heads : List ℤ} {up down : List ℕ} → Holds (taken g (hides g (i + 1))) heads up down → Led (hiding g i) r heads down
-    search-led w = record { tidy = hiding-tidy g R i; entry = entry; heads-are = w.heads-are; down-are = w.down-are }
+    pub hidden-led : {heads : List ℤ} {up down : List ℕ} → Holds (taken g (hides g (i + 1))) heads up down → Led (hiding g i) r heads down
+    hidden-led w = record { tidy = hiding-tidy g R i; entry = entry; heads-are = w.heads-are; down-are = w.down-are }
 
-    pub search-marking : {heads : List ℤ} {up down : List ℕ} → Holds (taken g (hides g (i + 1))) heads up down → first_live g r ≡ true → (marks : List ℕ)
+    pub hidden-marking : {heads : List ℤ} {up down : List ℕ} → Holds (taken g (hides g (i + 1))) heads up down → first_live g r ≡ true → (marks : List ℕ)
         → Known g g.on marks → Marking (hiding g i) g.on r heads marks
-    search-marking w f marks k = record {
+    hidden-marking w f marks k = record {
       tidy = hiding-tidy g R i;
       entry = entry;
       first = first-same r entry ∙ f;
@@ -88,8 +88,8 @@ module _ (g : Ground) (R : Ready g) (i : ℕ) where
     }
 
     -- what the test asks
-    pub search-tested : g.plan.tint r ≡ 0 → Tested (hiding g i) r
-    search-tested z = subst (λ (x : Ground). Tested x r) (hiding-is g i) (tested-hidden g R i r entry (column→ g (i + 1) r c).0 (column→ g (i + 1) r c).1 z)
+    pub hidden-tested : g.plan.tint r ≡ 0 → Tested (hiding g i) r
+    hidden-tested z = subst (λ (x : Ground). Tested x r) (hiding-is g i) (tested-hidden g R i r entry (column→ g (i + 1) r c).0 (column→ g (i + 1) r c).1 z)
 
     -- r was the first live entry, or not
     pub led-first : {z : ℕ} → Leads (hiding g i) r z → eqb (item_of (head (hiding g i).heads z)) 0 ≡ first_live g r
@@ -142,8 +142,8 @@ module _ (g : Ground) (R : Ready g) (i : ℕ) where
     apart-same : (a b : ℕ) → a ≤ b → ((k : ℕ) → a ≤ k → k < b → in_column g (i + 1) k ≡ false) → down_to (condemned_at np i g) b ≡ down_to (condemned_at np i g) a
     apart-same a b l n = down-same (condemned_at np i g) a b l (λ k x y. rw (n k x y))
 
-    pub search-stand : Stand (hiding g i) (i + 1) (at (hiding g i).down (i + 1))
-    search-stand = stand-next (hiding g i) (hiding-tidy g R i) (i + 1) hd (i + 1)
+    pub hidden-stand : Stand (hiding g i) (i + 1) (at (hiding g i).down (i + 1))
+    hidden-stand = stand-next (hiding g i) (hiding-tidy g R i) (i + 1) hd (i + 1)
         (stand-header (hiding g i) (hiding-tidy g R i) (i + 1) hd (hiding-own g R i (i + 1) (W.header (i + 1) hd) ∙ R.whole.headers (i + 1) hd))
 
     at_top : Stand (hiding g i) (i + 1) (i + 1)
