@@ -50,42 +50,42 @@ alive-less h marks r np heads i a k n j hd le not_own some = ⊎_elim own other 
     other : (j ≢ i) × (head (set heads i (pos (item_of (head heads i) - 1))) j ≡ head heads j) → 0 < item_of (head (set heads i (pos (item_of (head heads i) - 1))) j)
     other w = rw w.1 (a j hd le not_own some)
 
-module _ {h : Ground} {tints marks : List ℕ} {r : ℕ} {shape : Shape} {heads : List ℤ} {up down : List ℕ} {q p qq : ℕ} (m : Inner h tints marks r shape q p qq heads up down) where
+module _ {h : Ground} {tints marks : List ℕ} {r : ℕ} {shape : Shape} {heads : List ℤ} {up down : List ℕ} {q rr qq : ℕ} (m : Inner h tints marks r shape q rr qq heads up down) where
   g-tidy : Tidy (ground_at h r q)
   g-tidy = ground-tidy m.item
 
-  before-fresh : Fresh (ground_at h r q) (rivals_to h r q p)
-  before-fresh = rivals-fresh m.item p
+  before-fresh : Fresh (ground_at h r q) (rivals_to h r q rr)
+  before-fresh = rivals-fresh m.item rr
 
-  -- the ground when the walk came to p
-  pub to-tidy : Tidy (ground_to h r q p)
-  to-tidy = after-tidy (ground_at h r q) (rivals_to h r q p) g-tidy before-fresh
+  -- the ground when the walk came to rr
+  pub to-tidy : Tidy (ground_to h r q rr)
+  to-tidy = after-tidy (ground_at h r q) (rivals_to h r q rr) g-tidy before-fresh
 
-  pub row : EntryOf h.plan p
-  row = rival-row m.item p m.rival
+  pub row : EntryOf h.plan rr
+  row = rival-row m.item rr m.rival
 
-  one_more : rivals_to h r q (p + 1) ≡ rivals_to h r q p ++ others (ground_at h r q) p
-  one_more = gather-one (rival_at (ground_at h r q) (h.plan.col q) (h.plan.tint q)) (ground_at h r q) p m.rival
+  one_more : rivals_to h r q (rr + 1) ≡ rivals_to h r q rr ++ others (ground_at h r q) rr
+  one_more = gather-one (rival_at (ground_at h r q) (h.plan.col q) (h.plan.tint q)) (ground_at h r q) rr m.rival
 
-  same-others : others (ground_to h r q p) p ≡ others (ground_at h r q) p
-  same-others = after-others (ground_at h r q) (rivals_to h r q p) g-tidy before-fresh p row
+  same-others : others (ground_to h r q rr) rr ≡ others (ground_at h r q) rr
+  same-others = after-others (ground_at h r q) (rivals_to h r q rr) g-tidy before-fresh rr row
 
-  pub others-fresh : Fresh (ground_to h r q p) (others (ground_to h r q p) p)
+  pub others-fresh : Fresh (ground_to h r q rr) (others (ground_to h r q rr) rr)
   others-fresh =
-      subst (λ (xs : List ℕ). Fresh (ground_to h r q p) xs) (sym same-others)
-      (fresh-after (ground_at h r q) (rivals_to h r q p) (others (ground_at h r q) p) (subst (λ (xs : List ℕ). Fresh (ground_at h r q) xs) one_more (rivals-fresh m.item (p + 1))))
+      subst (λ (xs : List ℕ). Fresh (ground_to h r q rr) xs) (sym same-others)
+      (fresh-after (ground_at h r q) (rivals_to h r q rr) (others (ground_at h r q) rr) (subst (λ (xs : List ℕ). Fresh (ground_at h r q) xs) one_more (rivals-fresh m.item (rr + 1))))
 
-  stands : Underway (ground_to h r q p) (walked (ground_to h r q p) p qq) p qq heads up down
+  stands : Underway (ground_to h r q rr) (walked (ground_to h r q rr) rr qq) rr qq heads up down
   stands = record { tidy = to-tidy; fresh = m.fresh; entry = row; place = record { from = m.from; till = m.till }; holds = m.holds }
 
   pub inner-in : (qq < length heads) × (qq < length up)
   inner-in = Onward.inside stands
 
-  -- the walk came round: p's others are out
-  pub inner-done : qq ≡ p → Passed h tints marks r shape q p heads up down
+  -- the walk came round: rr's others are out
+  pub inner-done : qq ≡ rr → Passed h tints marks r shape q rr heads up down
   unfolding others
   inner-done e =
-      let rival = rival→ (ground_at h r q) (h.plan.col q) (h.plan.tint q) p m.rival in
+      let rival = rival→ (ground_at h r q) (h.plan.col q) (h.plan.tint q) rr m.rival in
       record {
         item = m.item;
         behind = omega (arith, rival.2, m.item.test.starts);
@@ -93,38 +93,38 @@ module _ {h : Ground} {tints marks : List ℕ} {r : ℕ} {shape : Shape} {heads 
         col = rival.1;
         alive = m.alive;
         holds = subst (λ (G : Ground). Holds G heads up down)
-            (ap (λ (k : ℕ). taken (ground_to h r q p) (walked (ground_to h r q p) p k)) e ∙ ap (taken (ground_to h r q p)) same-others
-            ∙ after_more (ground_at h r q) (rivals_to h r q p) (others (ground_at h r q) p) ∙ ap (taken (ground_at h r q)) (sym one_more))
+            (ap (λ (k : ℕ). taken (ground_to h r q rr) (walked (ground_to h r q rr) rr k)) e ∙ ap (taken (ground_to h r q rr)) same-others
+            ∙ after_more (ground_at h r q) (rivals_to h r q rr) (others (ground_at h r q) rr) ∙ ap (taken (ground_at h r q)) (sym one_more))
             m.holds;
       }
 
-  module _ (d : qq ≢ p) where
+  module _ (d : qq ≢ rr) where
     -- over a head without an item
     module _ (none : None ≡ column_in (head heads qq)) where
       no_item : item_of (head heads qq) ≡ 0
       no_item = item_none (head heads qq) none
 
-      on-at : At (ground_to h r q p) p (at up qq)
+      on-at : At (ground_to h r q rr) rr (at up qq)
       on-at = Onward.over-at stands d no_item
 
-      same-walked : walked (ground_to h r q p) p qq ≡ walked (ground_to h r q p) p (at up qq)
+      same-walked : walked (ground_to h r q rr) rr qq ≡ walked (ground_to h r q rr) rr (at up qq)
       same-walked = sym (Onward.over-walked stands d no_item)
 
-      pub inner-over : Inner h tints marks r shape q p (at up qq) heads up down
+      pub inner-over : Inner h tints marks r shape q rr (at up qq) heads up down
       inner-over = record {
         item = m.item;
         rival = m.rival;
         from = on-at.from;
         till = on-at.till;
-        fresh = subst (λ (xs : List ℕ). Fresh (ground_to h r q p) xs) same-walked m.fresh;
+        fresh = subst (λ (xs : List ℕ). Fresh (ground_to h r q rr) xs) same-walked m.fresh;
         alive = m.alive;
-        holds = subst (λ (xs : List ℕ). Holds (taken (ground_to h r q p) xs) heads up down) same-walked m.holds;
+        holds = subst (λ (xs : List ℕ). Holds (taken (ground_to h r q rr) xs) heads up down) same-walked m.holds;
       }
 
-      pub inner-over-way : (n : ℕ) → length heads ≡ n → way n p (at up qq) < way n p qq
+      pub inner-over-way : (n : ℕ) → length heads ≡ n → way n rr (at up qq) < way n rr qq
       inner-over-way = Onward.over-way stands d no_item
 
-    pub inner-way : (n : ℕ) → length heads ≡ n → way n p (qq + 1) < way n p qq
+    pub inner-way : (n : ℕ) → length heads ≡ n → way n rr (qq + 1) < way n rr qq
     inner-way = Onward.full-way stands d
 
     -- at an entry, which is in its column
@@ -132,19 +132,19 @@ module _ {h : Ground} {tints marks : List ℕ} {r : ℕ} {shape : Shape} {heads 
       pub inner-entry : EntryOf h.plan qq
       inner-entry = Onward.full-entry stands d z
 
-      inside : qq < hi h.plan p
+      inside : qq < hi h.plan rr
       inside = Onward.full-inside stands d z
 
-      pub inner-number : h.plan.number qq ≡ h.plan.number p
-      inner-number = to-tidy.planned.numbered (h.plan.number p) qq row.option m.from inside
+      pub inner-number : h.plan.number qq ≡ h.plan.number rr
+      inner-number = to-tidy.planned.numbered (h.plan.number rr) qq row.option m.from inside
 
       pub inner-col : item_of (head heads qq) ≡ h.plan.col qq
       inner-col = Onward.full-col stands d z
 
-      pub inner-within : Within (after (ground_to h r q p) (walked (ground_to h r q p) p qq)) qq
-      inner-within = passing-within stands d z (λ y i. fresh-within (ground_to h r q p) (others (ground_to h r q p) p) others-fresh i)
+      pub inner-within : Within (after (ground_to h r q rr) (walked (ground_to h r q rr) rr qq)) qq
+      inner-within = passing-within stands d z (λ y i. fresh-within (ground_to h r q rr) (others (ground_to h r q rr) rr) others-fresh i)
 
-      walked_more : walked (ground_to h r q p) p (qq + 1) ≡ walked (ground_to h r q p) p qq ++ (qq ∷ [])
+      walked_more : walked (ground_to h r q rr) rr (qq + 1) ≡ walked (ground_to h r q rr) rr qq ++ (qq ∷ [])
       walked_more = Onward.full-one stands d z
 
     -- as the entry of column i
@@ -156,32 +156,32 @@ module _ {h : Ground} {tints marks : List ℕ} {r : ℕ} {shape : Shape} {heads 
       item-is = sym (item_some (head heads qq) i some).0 ∙ inner-col an_item
 
       pub inner-fewer : (i < length heads) × (item_of (head heads i) < node_bound) × (0 < item_of (head heads i))
-      inner-fewer = rw item-is (fewer-asks (ground_to h r q p) (walked (ground_to h r q p) p qq) qq to-tidy m.fresh (inner-within an_item) m.holds)
+      inner-fewer = rw item-is (fewer-asks (ground_to h r q rr) (walked (ground_to h r q rr) rr qq) qq to-tidy m.fresh (inner-within an_item) m.holds)
 
       pub inner-mark : i < length marks
       inner-mark = rw item-is (omega (arith, (to-tidy.planned.entry qq (inner-entry an_item)).below, m.item.test.marked.room))
 
       pub inner-unlink : (qq < length up) × (qq < length down) × (at up qq < length down) × (at down qq < length up)
-      inner-unlink = unlink-asks (ground_to h r q p) (walked (ground_to h r q p) p qq) qq to-tidy m.fresh (inner-within an_item) m.holds
+      inner-unlink = unlink-asks (ground_to h r q rr) (walked (ground_to h r q rr) rr qq) qq to-tidy m.fresh (inner-within an_item) m.holds
 
       -- it is taken out
       pub inner-take : stops_at heads marks i r shape.np ≡ false
-          → Inner h tints marks r shape q p (qq + 1) (set heads i (pos (item_of (head heads i) - 1))) (cut_up up down qq) (cut_down up down qq)
+          → Inner h tints marks r shape q rr (qq + 1) (set heads i (pos (item_of (head heads i) - 1))) (cut_up up down qq) (cut_down up down qq)
       inner-take n = record {
         item = m.item;
         rival = m.rival;
         from = omega (arith, m.from);
         till = omega (arith, inside an_item);
-        fresh = subst (λ (xs : List ℕ). Fresh (ground_to h r q p) xs) (sym (walked_more an_item))
-            (fresh-one-more (ground_to h r q p) (walked (ground_to h r q p) p qq) qq to-tidy m.fresh (inner-within an_item));
+        fresh = subst (λ (xs : List ℕ). Fresh (ground_to h r q rr) xs) (sym (walked_more an_item))
+            (fresh-one-more (ground_to h r q rr) (walked (ground_to h r q rr) rr qq) qq to-tidy m.fresh (inner-within an_item));
         alive = alive-less h marks r shape.np heads i m.alive inner-fewer.0 n;
         holds = rw item-is
             (subst (λ (xs : List ℕ).
-            Holds (taken (ground_to h r q p) xs) (set heads (h.plan.col qq) (pos (item_of (head heads (h.plan.col qq)) - 1))) (cut_up up down qq) (cut_down up down qq))
+            Holds (taken (ground_to h r q rr) xs) (set heads (h.plan.col qq) (pos (item_of (head heads (h.plan.col qq)) - 1))) (cut_up up down qq) (cut_down up down qq))
             (sym (walked_more an_item))
-            (take_out (ground_to h r q p) (walked (ground_to h r q p) p qq) qq to-tidy m.fresh (inner-within an_item) m.holds));
+            (take_out (ground_to h r q rr) (walked (ground_to h r q rr) rr qq) qq to-tidy m.fresh (inner-within an_item) m.holds));
       }
 
       -- or the walk stops before it
-      pub inner-stops : stops_at heads marks i r shape.np ≡ true → Stopped h tints marks r shape q p qq heads up down
+      pub inner-stops : stops_at heads marks i r shape.np ≡ true → Stopped h tints marks r shape q rr qq heads up down
       inner-stops n = record { inner = m; other = d; full = an_item; stops = rw (item_some (head heads qq) i some).0 n }

@@ -59,16 +59,16 @@ module _ (h : Ground) (r : ℕ) (w : Tested h r) where
   -- the test of the definition, both ways
   pub hit-clashes : (y : ℕ) → Hit h r y → T (clashes_at h r y)
   hit-clashes y k =
-      any← (λ q. any (λ p. h.on p && eqb (h.plan.col p) (h.plan.col q) && not (agree (h.plan.tint q) (h.plan.tint p))) (span (lo h.plan y) (hi h.plan y))) (others h r) k.clash.among
-      (any← (λ p. h.on p && eqb (h.plan.col p) (h.plan.col k.clash.item) && not (agree (h.plan.tint k.clash.item) (h.plan.tint p))) (span (lo h.plan y) (hi h.plan y))
+      any← (λ q. any (λ rr. h.on rr && eqb (h.plan.col rr) (h.plan.col q) && not (agree (h.plan.tint q) (h.plan.tint rr))) (span (lo h.plan y) (hi h.plan y))) (others h r) k.clash.among
+      (any← (λ rr. h.on rr && eqb (h.plan.col rr) (h.plan.col k.clash.item) && not (agree (h.plan.tint k.clash.item) (h.plan.tint rr))) (span (lo h.plan y) (hi h.plan y))
       (span-In (lo h.plan y) (hi h.plan y) (subst (λ (j : ℕ). h.plan.first j ≤ k.at) (sym k.number) k.clash.entry.from)
       (subst (λ (j : ℕ). k.at < h.plan.past j) (sym k.number) k.clash.entry.till))
       (rw (k.clash.on, eq-eqb (h.plan.col k.at) (h.plan.col k.clash.item) k.clash.col, k.clash.differ) tt))
 
   pub clashes-hit : (y : ℕ) → EntryOf h.plan y → T (clashes_at h r y) → Hit h r y
   clashes-hit y e c =
-      let a = any→ (λ q. any (λ p. h.on p && eqb (h.plan.col p) (h.plan.col q) && not (agree (h.plan.tint q) (h.plan.tint p))) (span (lo h.plan y) (hi h.plan y))) (others h r) c in
-      let b = any→ (λ p. h.on p && eqb (h.plan.col p) (h.plan.col a.0) && not (agree (h.plan.tint a.0) (h.plan.tint p))) (span (lo h.plan y) (hi h.plan y)) a.2 in
+      let a = any→ (λ q. any (λ rr. h.on rr && eqb (h.plan.col rr) (h.plan.col q) && not (agree (h.plan.tint q) (h.plan.tint rr))) (span (lo h.plan y) (hi h.plan y))) (others h r) c in
+      let b = any→ (λ rr. h.on rr && eqb (h.plan.col rr) (h.plan.col a.0) && not (agree (h.plan.tint a.0) (h.plan.tint rr))) (span (lo h.plan y) (hi h.plan y)) a.2 in
       let s = In-span (lo h.plan y) (hi h.plan y) b.1 in
       let u = T_and (h.on b.0 && eqb (h.plan.col b.0) (h.plan.col a.0)) (not (agree (h.plan.tint a.0) (h.plan.tint b.0))) b.2 in
       let v = T_and (h.on b.0) (eqb (h.plan.col b.0) (h.plan.col a.0)) u.0 in
@@ -108,29 +108,29 @@ module _ {h : Ground} {tints marks : List ℕ} {r : ℕ} {shape : Shape} {q : �
       let w = In-gather (rival_at (ground_at h r q) (h.plan.col q) (h.plan.tint q)) (ground_at h r q) k i in
       hit-rival w.0 w.2 y (In-others (ground_at h r q) (ground-tidy m) w.0 (rival-row m w.0 w.2) w.3).1
 
-  -- where a node left its column while the walk came to node nn of rival p
-  module _ (p : ℕ) (c : rival_at (ground_at h r q) (h.plan.col q) (h.plan.tint q) p ≡ true) (nn : ℕ) (from : lo h.plan p ≤ nn) (till : nn ≤ hi h.plan p) where
-    to-tidy : Tidy (ground_to h r q p)
-    to-tidy = after-tidy (ground_at h r q) (rivals_to h r q p) (ground-tidy m) (rivals-fresh m p)
+  -- where a node left its column while the walk came to node qq of rival rr
+  module _ (rr : ℕ) (c : rival_at (ground_at h r q) (h.plan.col q) (h.plan.tint q) rr ≡ true) (qq : ℕ) (from : lo h.plan rr ≤ qq) (till : qq ≤ hi h.plan rr) where
+    to-tidy : Tidy (ground_to h r q rr)
+    to-tidy = after-tidy (ground_at h r q) (rivals_to h r q rr) (ground-tidy m) (rivals-fresh m rr)
 
-    pub hit-walked : {y : ℕ} → In y (walked (ground_to h r q p) p nn) → Hit h r y
-    hit-walked {y} i = hit-rival p c y (In-walked (ground_to h r q p) to-tidy p (rival-row m p c) nn (record { from = from; till = till }) i).1
+    pub hit-walked : {y : ℕ} → In y (walked (ground_to h r q rr) rr qq) → Hit h r y
+    hit-walked {y} i = hit-rival rr c y (In-walked (ground_to h r q rr) to-tidy rr (rival-row m rr c) qq (record { from = from; till = till }) i).1
 
-    pub hit-gone : (y : ℕ) → h.on y ≡ true → (taken (ground_to h r q p) (walked (ground_to h r q p) p nn)).on y ≡ false → Hit h r y
+    pub hit-gone : (y : ℕ) → h.on y ≡ true → (taken (ground_to h r q rr) (walked (ground_to h r q rr) rr qq)).on y ≡ false → Hit h r y
     hit-gone y o n = first ((ground_at h r q).on y) refl
       where
-        second : (ground_at h r q).on y ≡ true → (b : Bool) → (ground_to h r q p).on y ≡ b → Hit h r y
-        second a false e = hit-rivals p (gone-In (ground_at h r q) (rivals_to h r q p) y a e)
-        second a true e = hit-walked (gone-In (ground_to h r q p) (walked (ground_to h r q p) p nn) y e n)
+        second : (ground_at h r q).on y ≡ true → (b : Bool) → (ground_to h r q rr).on y ≡ b → Hit h r y
+        second a false e = hit-rivals rr (gone-In (ground_at h r q) (rivals_to h r q rr) y a e)
+        second a true e = hit-walked (gone-In (ground_to h r q rr) (walked (ground_to h r q rr) rr qq) y e n)
 
         first : (b : Bool) → (ground_at h r q).on y ≡ b → Hit h r y
         first false e = hit-out (gone-In h (out_at h r q) y o e)
-        first true e = second e ((ground_to h r q p).on y) refl
+        first true e = second e ((ground_to h r q rr).on y) refl
 
     -- r's own nodes stay where they are
-    pub own-stays : (y : ℕ) → h.on y ≡ true → h.plan.number y ≡ h.plan.number r → (taken (ground_to h r q p) (walked (ground_to h r q p) p nn)).on y ≡ true
-    own-stays y o e = go ((taken (ground_to h r q p) (walked (ground_to h r q p) p nn)).on y) refl
+    pub own-stays : (y : ℕ) → h.on y ≡ true → h.plan.number y ≡ h.plan.number r → (taken (ground_to h r q rr) (walked (ground_to h r q rr) rr qq)).on y ≡ true
+    own-stays y o e = go ((taken (ground_to h r q rr) (walked (ground_to h r q rr) rr qq)).on y) refl
       where
-        go : (b : Bool) → (taken (ground_to h r q p) (walked (ground_to h r q p) p nn)).on y ≡ b → b ≡ true
+        go : (b : Bool) → (taken (ground_to h r q rr) (walked (ground_to h r q rr) rr qq)).on y ≡ b → b ≡ true
         go true a = refl
         go false a = absurd (hit-foreign h r m.test.tested y (hit-gone y o a) e)

@@ -121,15 +121,15 @@ module _ {h : Ground} {tints marks : List ℕ} {r : ℕ} {shape : Shape} {heads 
         stand : Stand (ground_at h r q) (h.plan.col q) (h.plan.col q)
         stand = record { on = header-on; col = col-is }
 
-        pub enter : {p : ℕ} → p ≡ at down i → Middle h tints marks r shape q p heads up down
-        enter {p} a =
-            let b : p ≡ at (taken (ground_at h r q) []).down (h.plan.col q) = a ∙ ap (at down) item-is ∙ ap (λ (v : List ℕ). at v (h.plan.col q)) m.holds.down-are in
+        pub enter : {rr : ℕ} → rr ≡ at down i → Middle h tints marks r shape q rr heads up down
+        enter {rr} a =
+            let b : rr ≡ at (taken (ground_at h r q) []).down (h.plan.col q) = a ∙ ap (at down) item-is ∙ ap (λ (v : List ℕ). at v (h.plan.col q)) m.holds.down-are in
             record {
               item = outer-item;
               on = rw b (down-stand column (h.plan.col q) stand).on;
               col = rw b (down-stand column (h.plan.col q) stand).col;
               alive = m.alive;
-              holds = subst (λ (xs : List ℕ). Holds (taken (ground_at h r q) xs) heads up down) (sym (nothing p b))
+              holds = subst (λ (xs : List ℕ). Holds (taken (ground_at h r q) xs) heads up down) (sym (nothing rr b))
                   (record { heads-are = m.holds.heads-are; up-are = m.holds.up-are; down-are = m.holds.down-are });
             }
           where
@@ -139,7 +139,7 @@ module _ {h : Ground} {tints marks : List ℕ} {r : ℕ} {shape : Shape} {heads 
             inside : (k : ℕ) → rival_at (ground_at h r q) (h.plan.col q) (h.plan.tint q) k ≡ true → in_column (ground_at h r q) (h.plan.col q) k ≡ true
             inside k = rival-inside (ground_at h r q) (h.plan.col q) k (h.plan.tint q)
 
-            nothing : (p : ℕ) → p ≡ at (taken (ground_at h r q) []).down (h.plan.col q) → rivals_to h r q (reach h.plan p) ≡ []
-            nothing p b =
+            nothing : (rr : ℕ) → rr ≡ at (taken (ground_at h r q) []).down (h.plan.col q) → rivals_to h r q (reach h.plan rr) ≡ []
+            nothing rr b =
                 rw b (down-gathered column (h.plan.col q) stand rival inside
                 ∙ gathered-none g-tidy (h.plan.col q) rival inside (h.plan.col q + 1) (omega (arith, header-before h.plan t.planned (h.plan.col q) header)))

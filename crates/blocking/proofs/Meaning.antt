@@ -60,8 +60,8 @@ stops→ heads marks i r np e =
     let b = (and-eq-true_iff (eqb (item_of (head heads i) - 1) 0) (leb i np)).0 a.0 in
     (eqb-true (item_of (head heads i) - 1) 0 b.0, leb-true i np b.1, eqb-false (at marks i) r (not-true (eqb (at marks i) r) a.1))
 
-module _ {h : Ground} {tints marks : List ℕ} {r : ℕ} {shape : Shape} {heads : List ℤ} {up down : List ℕ} {q p qq : ℕ} (m : Stopped h tints marks r shape q p qq heads up down) where
-  I : Inner h tints marks r shape q p qq heads up down
+module _ {h : Ground} {tints marks : List ℕ} {r : ℕ} {shape : Shape} {heads : List ℤ} {up down : List ℕ} {q rr qq : ℕ} (m : Stopped h tints marks r shape q rr qq heads up down) where
+  I : Inner h tints marks r shape q rr qq heads up down
   I = m.inner
 
   w : Tested h r
@@ -75,10 +75,10 @@ module _ {h : Ground} {tints marks : List ℕ} {r : ℕ} {shape : Shape} {heads 
 
   -- the ground where the walk stopped
   abbrev last : Ground
-  last = after (ground_to h r q p) (walked (ground_to h r q p) p qq)
+  last = after (ground_to h r q rr) (walked (ground_to h r q rr) rr qq)
 
   last-tidy : Tidy last
-  last-tidy = after-tidy (ground_to h r q p) (walked (ground_to h r q p) p qq) (to-tidy I) I.fresh
+  last-tidy = after-tidy (ground_to h r q rr) (walked (ground_to h r q rr) rr qq) (to-tidy I) I.fresh
 
   entry : EntryOf h.plan qq
   entry = inner-entry I m.other m.full
@@ -102,7 +102,7 @@ module _ {h : Ground} {tints marks : List ℕ} {r : ℕ} {shape : Shape} {heads 
       (entry-from h.plan t.planned y e) (entry-till h.plan t.planned y e) o c
 
   own-hit : Hit h r qq
-  own-hit = hit-rival I.item p I.rival qq (inner-number I m.other m.full)
+  own-hit = hit-rival I.item rr I.rival qq (inner-number I m.other m.full)
 
   -- r does not hold its item: it would carry r's mark, or r be left in the column beside qq
   not-held : (z : ℕ) → In z (span (lo h.plan r) (hi h.plan r)) → T (not (holds_at h r i z))
@@ -114,7 +114,7 @@ module _ {h : Ground} {tints marks : List ℕ} {r : ℕ} {shape : Shape} {heads 
 
       own : h.plan.col z ≡ i → z ≡ r → ⊥
       own c e =
-          let o = own-stays I.item p I.rival qq I.from I.till r w.on refl in
+          let o = own-stays I.item rr I.rival qq I.from I.till r w.on refl in
           hit-foreign h r w qq own-hit (ap h.plan.number (sym (alone r w.entry o (ap h.plan.col (sym e) ∙ c))))
 
       other : T (full h.heads z) → h.plan.col z ≡ i → z ≢ r → ⊥
@@ -128,12 +128,12 @@ module _ {h : Ground} {tints marks : List ℕ} {r : ℕ} {shape : Shape} {heads 
     where
       go : h.on y ≡ true → h.plan.col y ≡ i → start h.plan ≤ y → (b : Bool) → last.on y ≡ b → Hit h r y
       go o c a true e = subst (λ (j : ℕ). Hit h r j) (sym (alone y (on-entry h t y o a) e c)) own-hit
-      go o c a false e = hit-gone I.item p I.rival qq I.from I.till y o e
+      go o c a false e = hit-gone I.item rr I.rival qq I.from I.till y o e
 
   here_on : h.on qq ≡ true
   here_on =
-      let a = (on-taken (ground_to h r q p) (walked (ground_to h r q p) p qq) qq within.on).0 in
-      (on-taken h (out_at h r q) qq (on-taken (ground_at h r q) (rivals_to h r q p) qq a).0).0
+      let a = (on-taken (ground_to h r q rr) (walked (ground_to h r q rr) rr qq) qq within.on).0 in
+      (on-taken h (out_at h r q) qq (on-taken (ground_at h r q) (rivals_to h r q rr) qq a).0).0
 
   some-there : T (any (in_column h i) (nodes_of h))
   some-there =

@@ -40,45 +40,45 @@ module _ {h : Ground} {tints marks : List ℕ} {r : ℕ} {shape : Shape} (q : �
         holds = rw e l;
       }
 
-module _ {h : Ground} {tints marks : List ℕ} {r : ℕ} {shape : Shape} {heads : List ℤ} {up down : List ℕ} {q p qq : ℕ} (m : Stopped h tints marks r shape q p qq heads up down) where
-  I : Inner h tints marks r shape q p qq heads up down
+module _ {h : Ground} {tints marks : List ℕ} {r : ℕ} {shape : Shape} {heads : List ℤ} {up down : List ℕ} {q rr qq : ℕ} (m : Stopped h tints marks r shape q rr qq heads up down) where
+  I : Inner h tints marks r shape q rr qq heads up down
   I = m.inner
 
   t : Tidy h
   t = I.item.test.tested.tidy
 
-  p-row : EntryOf h.plan p
+  p-row : EntryOf h.plan rr
   p-row = row I
 
-  -- first the walk round p, up to the node before qq
+  -- first the walk round rr, up to the node before qq
   pub stopped-some : 0 < qq
-  stopped-some = omega (arith, I.from, t.planned.from (h.plan.number p) p-row.option)
+  stopped-some = omega (arith, I.from, t.planned.from (h.plan.number rr) p-row.option)
 
-  pub stopped-half : Half (ground_to h r q p) p (qq - 1) heads up down
+  pub stopped-half : Half (ground_to h r q rr) rr (qq - 1) heads up down
   stopped-half =
       let e : qq - 1 + 1 ≡ qq = omega (arith, stopped-some) in
       record { tidy = to-tidy I; entry = p-row; from = rw e I.from; till = rw e I.till; fresh = rw e I.fresh; holds = rw e I.holds }
 
-  -- then the column, from the node above p
-  stopped-above : {heads' : List ℤ} {up' down' : List ℕ} → Holds (ground_to h r q p) heads' up' down' → Above (ground_at h r q) tints p (at tints q) shape.start heads' up' down'
+  -- then the column, from the node above rr
+  stopped-above : {heads' : List ℤ} {up' down' : List ℕ} → Holds (ground_to h r q rr) heads' up' down' → Above (ground_at h r q) tints rr (at tints q) shape.start heads' up' down'
   stopped-above {heads'} {up'} {down'} l =
-      -- the rivals above p, in p's own column
-      let rivals : ℕ → List ℕ = λ i. gather_to (rival_at (ground_at h r q) i (h.plan.tint q)) (ground_at h r q) p in
-      let rival = rival→ (ground_at h r q) (h.plan.col q) (h.plan.tint q) p I.rival in
+      -- the rivals above rr, in rr's own column
+      let rivals : ℕ → List ℕ = λ i. gather_to (rival_at (ground_at h r q) i (h.plan.tint q)) (ground_at h r q) rr in
+      let rival = rival→ (ground_at h r q) (h.plan.col q) (h.plan.tint q) rr I.rival in
       rw (I.item.test.tinted.tint q (item-entry I.item)) (record {
         tidy = ground-tidy I.item;
         tinted = I.item.test.tinted;
         starts = I.item.test.starts;
         on = rival.0;
         entry = p-row;
-        fresh = subst (λ (i : ℕ). Fresh (ground_at h r q) (rivals i)) (sym rival.1) (rivals-fresh I.item p);
-        holds = subst (λ (i : ℕ). Holds (taken (ground_at h r q) (rivals i)) heads' up' down') (sym rival.1) (holds-taken (ground_at h r q) (rivals_to h r q p) l);
+        fresh = subst (λ (i : ℕ). Fresh (ground_at h r q) (rivals i)) (sym rival.1) (rivals-fresh I.item rr);
+        holds = subst (λ (i : ℕ). Holds (taken (ground_at h r q) (rivals i)) heads' up' down') (sym rival.1) (holds-taken (ground_at h r q) (rivals_to h r q rr) l);
       })
 
-  pub stopped-link : {heads' : List ℤ} {up' down' : List ℕ} → Holds (ground_to h r q p) heads' up' down' → p < length up'
+  pub stopped-link : {heads' : List ℤ} {up' down' : List ℕ} → Holds (ground_to h r q rr) heads' up' down' → rr < length up'
   stopped-link l = link-in (stopped-above l)
 
-  pub stopped-below : {heads' : List ℤ} {up' down' : List ℕ} {u : ℕ} → Holds (ground_to h r q p) heads' up' down' → u ≡ at up' p
+  pub stopped-below : {heads' : List ℤ} {up' down' : List ℕ} {u : ℕ} → Holds (ground_to h r q rr) heads' up' down' → u ≡ at up' rr
       → Below (ground_at h r q) tints u (at tints q) shape.start heads' up' down'
   stopped-below l = step-up (stopped-above l)
 

@@ -53,66 +53,66 @@ module _ {h : Ground} {tints marks : List ℕ} {r : ℕ} {shape : Shape} {q : �
     holds = subst (λ (G : Ground). Holds G heads up down) (after_more h (out_at h r q) (rivals (ground_at h r q) q) ∙ ap (taken h) (sym out-more)) l;
   }
 
--- Node p of q's column was dealt with, rival or not, and the walk has not gone on yet.
-pub record Passed (h : Ground) (tints marks : List ℕ) (r : ℕ) (shape : Shape) (q p : ℕ) (heads : List ℤ) (up down : List ℕ) : Type 0 where
+-- Node rr of q's column was dealt with, rival or not, and the walk has not gone on yet.
+pub record Passed (h : Ground) (tints marks : List ℕ) (r : ℕ) (shape : Shape) (q rr : ℕ) (heads : List ℤ) (up down : List ℕ) : Type 0 where
   pub item : AtItem h tints marks r shape q
-  pub behind : shape.start ≤ p
-  pub on : (ground_at h r q).on p ≡ true
-  pub col : h.plan.col p ≡ h.plan.col q
+  pub behind : shape.start ≤ rr
+  pub on : (ground_at h r q).on rr ≡ true
+  pub col : h.plan.col rr ≡ h.plan.col q
   pub alive : Alive h marks r shape.np heads
-  pub holds : Holds (taken (ground_at h r q) (rivals_to h r q (p + 1))) heads up down
+  pub holds : Holds (taken (ground_at h r q) (rivals_to h r q (rr + 1))) heads up down
 
-module _ {h : Ground} {tints marks : List ℕ} {r : ℕ} {shape : Shape} {heads : List ℤ} {up down : List ℕ} {q p : ℕ} (m : Middle h tints marks r shape q p heads up down) where
+module _ {h : Ground} {tints marks : List ℕ} {r : ℕ} {shape : Shape} {heads : List ℤ} {up down : List ℕ} {q rr : ℕ} (m : Middle h tints marks r shape q rr heads up down) where
   -- back at the header, the whole column was walked
-  pub leave : p < shape.start → Outer h tints marks r shape (q + 1) heads up down
+  pub leave : rr < shape.start → Outer h tints marks r shape (q + 1) heads up down
   leave l =
       next-item m.item heads up down m.alive
-      (subst (λ (k : ℕ). Holds (taken (ground_at h r q) (rivals_to h r q k)) heads up down) (reach-past h.plan p (omega (arith, m.item.test.starts))) m.holds)
+      (subst (λ (k : ℕ). Holds (taken (ground_at h r q) (rivals_to h r q k)) heads up down) (reach-past h.plan rr (omega (arith, m.item.test.starts))) m.holds)
 
-  module _ (b : shape.start ≤ p) where
+  module _ (b : shape.start ≤ rr) where
     g-tidy : Tidy (ground_at h r q)
     g-tidy = ground-tidy m.item
 
-    behind : start h.plan ≤ p
+    behind : start h.plan ≤ rr
     behind = omega (arith, m.item.test.starts)
 
-    pub middle-entry : EntryOf h.plan p
-    middle-entry = on-entry (ground_at h r q) g-tidy p m.on behind
+    pub middle-entry : EntryOf h.plan rr
+    middle-entry = on-entry (ground_at h r q) g-tidy rr m.on behind
 
-    pub middle-tint : p < length tints
-    middle-tint = omega (arith, entry-till h.plan m.item.test.tested.tidy.planned p middle-entry, m.item.test.tinted.room)
+    pub middle-tint : rr < length tints
+    middle-tint = omega (arith, entry-till h.plan m.item.test.tested.tidy.planned rr middle-entry, m.item.test.tinted.room)
 
-    pub middle-fits : p + 1 < 1048577
-    middle-fits = omega (arith, entry-till h.plan m.item.test.tested.tidy.planned p middle-entry, m.item.test.tested.tidy.planned.small)
+    pub middle-fits : rr + 1 < 1048577
+    middle-fits = omega (arith, entry-till h.plan m.item.test.tested.tidy.planned rr middle-entry, m.item.test.tested.tidy.planned.small)
 
-    held-here : Holds (taken (ground_at h r q) (rivals_to h r q p)) heads up down
-    held-here = subst (λ (k : ℕ). Holds (taken (ground_at h r q) (rivals_to h r q k)) heads up down) (reach-at h.plan p behind) m.holds
+    held-here : Holds (taken (ground_at h r q) (rivals_to h r q rr)) heads up down
+    held-here = subst (λ (k : ℕ). Holds (taken (ground_at h r q) (rivals_to h r q k)) heads up down) (reach-at h.plan rr behind) m.holds
 
     -- the colours as the lists have them
-    same-colours : agree (at tints q) (at tints p) ≡ agree (h.plan.tint q) (h.plan.tint p)
-    same-colours = rw (m.item.test.tinted.tint q (item-entry m.item), m.item.test.tinted.tint p middle-entry)
+    same-colours : agree (at tints q) (at tints rr) ≡ agree (h.plan.tint q) (h.plan.tint rr)
+    same-colours = rw (m.item.test.tinted.tint q (item-entry m.item), m.item.test.tinted.tint rr middle-entry)
 
     -- a rival: its others are walked
-    pub round : not (agree (at tints q) (at tints p)) ≡ true → Inner h tints marks r shape q p (p + 1) heads up down
+    pub round : not (agree (at tints q) (at tints rr)) ≡ true → Inner h tints marks r shape q rr (rr + 1) heads up down
     round c =
-        let w = walk_begins (ground_to h r q p) to-tidy p middle-entry in
-        let n = walked_none (ground_to h r q p) to-tidy p middle-entry in
+        let w = walk_begins (ground_to h r q rr) to-tidy rr middle-entry in
+        let n = walked_none (ground_to h r q rr) to-tidy rr middle-entry in
         record {
           item = m.item;
-          rival = rival← (ground_at h r q) (h.plan.col q) (h.plan.tint q) p m.on m.col behind (sym same-colours ∙ not-true (agree (at tints q) (at tints p)) c);
+          rival = rival← (ground_at h r q) (h.plan.col q) (h.plan.tint q) rr m.on m.col behind (sym same-colours ∙ not-true (agree (at tints q) (at tints rr)) c);
           from = w.from;
           till = w.till;
-          fresh = subst (λ (xs : List ℕ). Fresh (ground_to h r q p) xs) (sym n) tt;
+          fresh = subst (λ (xs : List ℕ). Fresh (ground_to h r q rr) xs) (sym n) tt;
           alive = m.alive;
-          holds = subst (λ (xs : List ℕ). Holds (taken (ground_to h r q p) xs) heads up down) (sym n)
+          holds = subst (λ (xs : List ℕ). Holds (taken (ground_to h r q rr) xs) heads up down) (sym n)
               (record { heads-are = held-here.heads-are; up-are = held-here.up-are; down-are = held-here.down-are });
         }
       where
-        to-tidy : Tidy (ground_to h r q p)
-        to-tidy = after-tidy (ground_at h r q) (rivals_to h r q p) g-tidy (rivals-fresh m.item p)
+        to-tidy : Tidy (ground_to h r q rr)
+        to-tidy = after-tidy (ground_at h r q) (rivals_to h r q rr) g-tidy (rivals-fresh m.item rr)
 
     -- no rival: nothing is taken here
-    pub spare : not (agree (at tints q) (at tints p)) ≡ false → Passed h tints marks r shape q p heads up down
+    pub spare : not (agree (at tints q) (at tints rr)) ≡ false → Passed h tints marks r shape q rr heads up down
     spare c = record {
       item = m.item;
       behind = b;
@@ -120,18 +120,18 @@ module _ {h : Ground} {tints marks : List ℕ} {r : ℕ} {shape : Shape} {heads 
       col = m.col;
       alive = m.alive;
       holds = subst (λ (xs : List ℕ). Holds (taken (ground_at h r q) xs) heads up down)
-          (sym (gather_none (rival_at (ground_at h r q) (h.plan.col q) (h.plan.tint q)) (ground_at h r q) p
-          (not_so (rival_at (ground_at h r q) (h.plan.col q) (h.plan.tint q) p)
-          (λ o. false≢true (sym (rival→ (ground_at h r q) (h.plan.col q) (h.plan.tint q) p o).3 ∙ sym same-colours ∙ not-false (agree (at tints q) (at tints p)) c)))))
+          (sym (gather_none (rival_at (ground_at h r q) (h.plan.col q) (h.plan.tint q)) (ground_at h r q) rr
+          (not_so (rival_at (ground_at h r q) (h.plan.col q) (h.plan.tint q) rr)
+          (λ o. false≢true (sym (rival→ (ground_at h r q) (h.plan.col q) (h.plan.tint q) rr o).3 ∙ sym same-colours ∙ not-false (agree (at tints q) (at tints rr)) c)))))
           held-here;
     }
 
 -- The step down from there.
-module _ {h : Ground} {tints marks : List ℕ} {r : ℕ} {shape : Shape} {q p : ℕ} {heads : List ℤ} {up down : List ℕ} (m : Passed h tints marks r shape q p heads up down) where
+module _ {h : Ground} {tints marks : List ℕ} {r : ℕ} {shape : Shape} {q rr : ℕ} {heads : List ℤ} {up down : List ℕ} (m : Passed h tints marks r shape q rr heads up down) where
   abbrev gone : List ℕ
-  gone = rivals_to h r q (p + 1)
+  gone = rivals_to h r q (rr + 1)
 
-  passed-start : start h.plan ≤ p
+  passed-start : start h.plan ≤ rr
   passed-start = omega (arith, m.behind, m.item.test.starts)
 
   q-tidy : Tidy (ground_at h r q)
@@ -144,22 +144,22 @@ module _ {h : Ground} {tints marks : List ℕ} {r : ℕ} {shape : Shape} {q p : 
   inside k = rival-inside (ground_at h r q) (h.plan.col q) k (h.plan.tint q)
 
   column : KeptColumn (ground_at h r q) (h.plan.col q) gone
-  column = chosen-kept q-tidy (h.plan.col q) (rival_at (ground_at h r q) (h.plan.col q) (h.plan.tint q)) inside hd (p + 1) (rivals-fresh m.item (p + 1))
+  column = chosen-kept q-tidy (h.plan.col q) (rival_at (ground_at h r q) (h.plan.col q) (h.plan.tint q)) inside hd (rr + 1) (rivals-fresh m.item (rr + 1))
 
-  stand : Stand (ground_at h r q) (h.plan.col q) p
+  stand : Stand (ground_at h r q) (h.plan.col q) rr
   stand = record { on = m.on; col = m.col }
 
-  pub down-in : p < length down
-  down-in = rw m.holds.down-are (omega (arith, entry-till h.plan m.item.test.tested.tidy.planned p (on-entry (ground_at h r q) q-tidy p m.on passed-start), column.now.ring.downs))
+  pub down-in : rr < length down
+  down-in = rw m.holds.down-are (omega (arith, entry-till h.plan m.item.test.tested.tidy.planned rr (on-entry (ground_at h r q) q-tidy rr m.on passed-start), column.now.ring.downs))
 
-  gathered : rivals_to h r q (reach h.plan (at down p)) ≡ gone
-  gathered = rw m.holds.down-are (down-gathered column p stand (rival_at (ground_at h r q) (h.plan.col q) (h.plan.tint q)) inside)
+  gathered : rivals_to h r q (reach h.plan (at down rr)) ≡ gone
+  gathered = rw m.holds.down-are (down-gathered column rr stand (rival_at (ground_at h r q) (h.plan.col q) (h.plan.tint q)) inside)
 
-  pub step_down : Middle h tints marks r shape q (at down p) heads up down
+  pub step_down : Middle h tints marks r shape q (at down rr) heads up down
   step_down = record {
     item = m.item;
-    on = rw m.holds.down-are (down-stand column p stand).on;
-    col = rw m.holds.down-are (down-stand column p stand).col;
+    on = rw m.holds.down-are (down-stand column rr stand).on;
+    col = rw m.holds.down-are (down-stand column rr stand).col;
     alive = m.alive;
     holds = subst (λ (xs : List ℕ). Holds (taken (ground_at h r q) xs) heads up down) (sym gathered) m.holds;
   }
@@ -167,7 +167,7 @@ module _ {h : Ground} {tints marks : List ℕ} {r : ℕ} {shape : Shape} {q p : 
   room : h.plan.N ≤ length heads
   room = rw m.holds.heads-are column.now.heads-in
 
-  pub step_left : (n : ℕ) → length heads ≡ n → left n shape.start (at down p) < left n shape.start p
+  pub step_left : (n : ℕ) → length heads ≡ n → left n shape.start (at down rr) < left n shape.start rr
   step_left n c =
       rw (m.holds.down-are, m.item.test.starts)
-      (step_less (after (ground_at h r q) gone) column.now (h.plan.col q) hd p (record { on = column.still p m.col ∙ m.on; col = m.col }) n (omega (arith, c, room)) passed-start)
+      (step_less (after (ground_at h r q) gone) column.now (h.plan.col q) hd rr (record { on = column.still rr m.col ∙ m.on; col = m.col }) n (omega (arith, c, room)) passed-start)

@@ -22,36 +22,36 @@ use Rattle.links.proofs.Undoing.{put_back, more-asks, relink-asks}
 use Rattle.links.proofs.Onward.{Underway}
 use Rattle.links.proofs.Backward.{inside, back_some, over-at, over-walked, over-way, full_at, full-col, full-one}
 
-module _ {g : Ground} {p k : ℕ} {heads : List ℤ} {up down : List ℕ} (m : Half g p k heads up down) where
+module _ {g : Ground} {rr qq : ℕ} {heads : List ℤ} {up down : List ℕ} (m : Half g rr qq heads up down) where
   abbrev behind : List ℕ
-  behind = walked g p (k + 1)
+  behind = walked g rr (qq + 1)
 
-  stands : Underway g behind p (k + 1) heads up down
+  stands : Underway g behind rr (qq + 1) heads up down
   stands = record { tidy = m.tidy; fresh = m.fresh; entry = m.entry; place = record { from = m.from; till = m.till }; holds = m.holds }
 
-  pub half_in : (k < length heads) × (k < length down)
-  half_in = inside k stands
+  pub half_in : (qq < length heads) × (qq < length down)
+  half_in = inside qq stands
 
-  pub half-some : 0 < k
-  half-some = back_some k stands
+  pub half-some : 0 < qq
+  half-some = back_some qq stands
 
-  -- the walk back came to p
-  pub half-done : k ≡ p → Holds g heads up down
-  half-done e = subst (λ (xs : List ℕ). Holds (taken g xs) heads up down) (ap (λ (j : ℕ). walked g p (j + 1)) e ∙ walked_none g m.tidy p m.entry) m.holds
+  -- the walk back came to rr
+  pub half-done : qq ≡ rr → Holds g heads up down
+  half-done e = subst (λ (xs : List ℕ). Holds (taken g xs) heads up down) (ap (λ (j : ℕ). walked g rr (j + 1)) e ∙ walked_none g m.tidy rr m.entry) m.holds
 
-  module _ (d : k ≢ p) where
+  module _ (d : qq ≢ rr) where
     -- over a head without an item
-    module _ (none : None ≡ column_in (head heads k)) where
-      no_item : item_of (head heads k) ≡ 0
-      no_item = item_none (head heads k) none
+    module _ (none : None ≡ column_in (head heads qq)) where
+      no_item : item_of (head heads qq) ≡ 0
+      no_item = item_none (head heads qq) none
 
-      on-at : At g p (at down k + 1)
-      on-at = over-at k stands d no_item
+      on-at : At g rr (at down qq + 1)
+      on-at = over-at qq stands d no_item
 
-      same-walked : behind ≡ walked g p (at down k + 1)
-      same-walked = sym (over-walked k stands d no_item)
+      same-walked : behind ≡ walked g rr (at down qq + 1)
+      same-walked = sym (over-walked qq stands d no_item)
 
-      pub half_over : Half g p (at down k) heads up down
+      pub half_over : Half g rr (at down qq) heads up down
       half_over = record {
         tidy = m.tidy;
         entry = m.entry;
@@ -61,43 +61,43 @@ module _ {g : Ground} {p k : ℕ} {heads : List ℤ} {up down : List ℕ} (m : H
         holds = subst (λ (xs : List ℕ). Holds (taken g xs) heads up down) same-walked m.holds;
       }
 
-      pub half-over-way : (n : ℕ) → length heads ≡ n → way_back n p (at down k) < way_back n p k
-      half-over-way = over-way k stands d no_item
+      pub half-over-way : (n : ℕ) → length heads ≡ n → way_back n rr (at down qq) < way_back n rr qq
+      half-over-way = over-way qq stands d no_item
 
     -- at an entry of column i
-    module _ {i : ℕ} (some : Some i ≡ column_in (head heads k)) where
-      an_item : item_of (head heads k) ≢ 0
-      an_item e = omega (arith, e, (item_some (head heads k) i some).1)
+    module _ {i : ℕ} (some : Some i ≡ column_in (head heads qq)) where
+      an_item : item_of (head heads qq) ≢ 0
+      an_item e = omega (arith, e, (item_some (head heads qq) i some).1)
 
-      at_entry : At g p k
-      at_entry = full_at k stands d an_item
+      at_entry : At g rr qq
+      at_entry = full_at qq stands d an_item
 
-      item-is : i ≡ g.plan.col k
-      item-is = sym (item_some (head heads k) i some).0 ∙ full-col k stands d an_item
+      item-is : i ≡ g.plan.col qq
+      item-is = sym (item_some (head heads qq) i some).0 ∙ full-col qq stands d an_item
 
-      one_more : behind ≡ walked g p k ++ (k ∷ [])
-      one_more = full-one k stands d an_item
+      one_more : behind ≡ walked g rr qq ++ (qq ∷ [])
+      one_more = full-one qq stands d an_item
 
-      fresh-one : Fresh g (walked g p k ++ (k ∷ []))
+      fresh-one : Fresh g (walked g rr qq ++ (qq ∷ []))
       fresh-one = subst (λ (xs : List ℕ). Fresh g xs) one_more m.fresh
 
-      holds-one : Holds (taken g (walked g p k ++ (k ∷ []))) heads up down
+      holds-one : Holds (taken g (walked g rr qq ++ (qq ∷ []))) heads up down
       holds-one = subst (λ (xs : List ℕ). Holds (taken g xs) heads up down) one_more m.holds
 
       pub half-more : Growing heads i
-      half-more = rw item-is (more-asks g (walked g p k) k m.tidy fresh-one holds-one)
+      half-more = rw item-is (more-asks g (walked g rr qq) qq m.tidy fresh-one holds-one)
 
-      pub half-relink : (k < node_bound) × (k < length up) × (k < length down) × (at up k < length down) × (at down k < length up)
-      half-relink = relink-asks g (walked g p k) k m.tidy fresh-one holds-one
+      pub half-relink : (qq < node_bound) × (qq < length up) × (qq < length down) × (at up qq < length down) × (at down qq < length up)
+      half-relink = relink-asks g (walked g rr qq) qq m.tidy fresh-one holds-one
 
-      pub half_back : Half g p (k - 1) (set heads i (pos (item_of (head heads i) + 1))) (tie_up up down k) (tie_down up down k)
+      pub half_back : Half g rr (qq - 1) (set heads i (pos (item_of (head heads i) + 1))) (tie_up up down qq) (tie_down up down qq)
       half_back =
-          let e : k - 1 + 1 ≡ k = omega (arith, half-some) in
+          let e : qq - 1 + 1 ≡ qq = omega (arith, half-some) in
           record {
             tidy = m.tidy;
             entry = m.entry;
             from = rw e at_entry.from;
             till = rw e at_entry.till;
-            fresh = rw e (fresh-front g (walked g p k) (k ∷ []) fresh-one);
-            holds = rw (e, item-is) (put_back g (walked g p k) k m.tidy fresh-one holds-one);
+            fresh = rw e (fresh-front g (walked g rr qq) (qq ∷ []) fresh-one);
+            holds = rw (e, item-is) (put_back g (walked g rr qq) qq m.tidy fresh-one holds-one);
           }

@@ -30,10 +30,10 @@ use Rattle.blocking.proofs.RivalTest.{rival→, rival←}
 
 -- before the first item none is out
 pub stage-none : (h : Ground) → Stage h [] []
-stage-none h = record { fresh = tt; out = λ y m. absurd (not-nil m); met = λ p c. absurd (not-nil c.among) }
+stage-none h = record { fresh = tt; out = λ y m. absurd (not-nil m); met = λ rr c. absurd (not-nil c.among) }
 
 -- more items, and more nodes
-clash-more : {h : Ground} (qs rs : List ℕ) {p : ℕ} → Clash h qs p → Clash h (qs ++ rs) p
+clash-more : {h : Ground} (qs rs : List ℕ) {rr : ℕ} → Clash h qs rr → Clash h (qs ++ rs) rr
 clash-more qs rs c = record { item = c.item; among = In-append-l rs c.among; entry = c.entry; on = c.on; col = c.col; differ = c.differ }
 
 out-more : {h : Ground} (qs rs xs ys : List ℕ) {y : ℕ} → Out h qs xs y → Out h (qs ++ rs) (xs ++ ys) y
@@ -119,8 +119,8 @@ module _ {h : Ground} {tints marks : List ℕ} {r : ℕ} {shape : Shape} {q : �
   stage-more = record {
     fresh = after-fresh h (out_at h r q) (rivals (ground_at h r q) q) m.stage.fresh (rivals-fresh h.plan.N);
     out = λ y i. ⊎_elim (λ a. out-more (walked h r q) (q ∷ []) (out_at h r q) (rivals (ground_at h r q) q) (m.stage.out y a)) (λ b. fresh-out y b) (In-append (out_at h r q) i);
-    met = λ p c. ⊎_elim (λ a. earlier p (record { item = c.item; among = a; entry = c.entry; on = c.on; col = c.col; differ = c.differ }))
-        (λ b. here-met p c (In-one b)) (In-append (walked h r q) c.among);
+    met = λ rr c. ⊎_elim (λ a. earlier rr (record { item = c.item; among = a; entry = c.entry; on = c.on; col = c.col; differ = c.differ }))
+        (λ b. here-met rr c (In-one b)) (In-append (walked h r q) c.among);
   }
     where
       fresh-out : (y : ℕ) → In y (rivals (ground_at h r q) q) → Out h (walked h r q ++ (q ∷ [])) (out_at h r q ++ rivals (ground_at h r q) q) y
@@ -135,20 +135,20 @@ module _ {h : Ground} {tints marks : List ℕ} {r : ℕ} {shape : Shape} {q : �
                 (subst (λ (l : List ℕ). In z l) (sym (rival-others w.0 w.2)) n));
           }
 
-      earlier : (p : ℕ) → Clash h (walked h r q) p → In p (out_at h r q ++ rivals (ground_at h r q) q) ⊎ ((z : ℕ) → In z (others h p) → In z (out_at h r q ++ rivals (ground_at h r q) q))
-      earlier p c = ⊎_elim (λ i. inl (In-append-l (rivals (ground_at h r q) q) i)) (λ f. inr (λ z n. In-append-l (rivals (ground_at h r q) q) (f z n))) (m.stage.met p c)
+      earlier : (rr : ℕ) → Clash h (walked h r q) rr → In rr (out_at h r q ++ rivals (ground_at h r q) q) ⊎ ((z : ℕ) → In z (others h rr) → In z (out_at h r q ++ rivals (ground_at h r q) q))
+      earlier rr c = ⊎_elim (λ i. inl (In-append-l (rivals (ground_at h r q) q) i)) (λ f. inr (λ z n. In-append-l (rivals (ground_at h r q) q) (f z n))) (m.stage.met rr c)
 
-      here-met : (p : ℕ) → (c : Clash h (walked h r q ++ (q ∷ [])) p) → c.item ≡ q → In p (out_at h r q ++ rivals (ground_at h r q) q)
-          ⊎ ((z : ℕ) → In z (others h p) → In z (out_at h r q ++ rivals (ground_at h r q) q))
-      here-met p c a = go ((taken h (out_at h r q)).on p) refl
+      here-met : (rr : ℕ) → (c : Clash h (walked h r q ++ (q ∷ [])) rr) → c.item ≡ q → In rr (out_at h r q ++ rivals (ground_at h r q) q)
+          ⊎ ((z : ℕ) → In z (others h rr) → In z (out_at h r q ++ rivals (ground_at h r q) q))
+      here-met rr c a = go ((taken h (out_at h r q)).on rr) refl
         where
-          go : (b : Bool) → (taken h (out_at h r q)).on p ≡ b → In p (out_at h r q ++ rivals (ground_at h r q) q)
-              ⊎ ((z : ℕ) → In z (others h p) → In z (out_at h r q ++ rivals (ground_at h r q) q))
-          go false o = inl (In-append-l (rivals (ground_at h r q) q) (gone-In h (out_at h r q) p c.on o))
+          go : (b : Bool) → (taken h (out_at h r q)).on rr ≡ b → In rr (out_at h r q ++ rivals (ground_at h r q) q)
+              ⊎ ((z : ℕ) → In z (others h rr) → In z (out_at h r q ++ rivals (ground_at h r q) q))
+          go false o = inl (In-append-l (rivals (ground_at h r q) q) (gone-In h (out_at h r q) rr c.on o))
           go true o =
-              let k : rival_at (ground_at h r q) (h.plan.col q) (h.plan.tint q) p ≡ true =
-              rival← (ground_at h r q) (h.plan.col q) (h.plan.tint q) p o (c.col ∙ ap h.plan.col a) (entry-from h.plan t.planned p c.entry)
-              (ap (λ (j : ℕ). agree (h.plan.tint j) (h.plan.tint p)) (sym a) ∙ c.differ) in
+              let k : rival_at (ground_at h r q) (h.plan.col q) (h.plan.tint q) rr ≡ true =
+              rival← (ground_at h r q) (h.plan.col q) (h.plan.tint q) rr o (c.col ∙ ap h.plan.col a) (entry-from h.plan t.planned rr c.entry)
+              (ap (λ (j : ℕ). agree (h.plan.tint j) (h.plan.tint rr)) (sym a) ∙ c.differ) in
               inr (λ z n. In-append-r (out_at h r q)
-              (gather-In (rival_at (ground_at h r q) (h.plan.col q) (h.plan.tint q)) (ground_at h r q) h.plan.N p (entry-till h.plan t.planned p c.entry) k
-              (subst (λ (l : List ℕ). In z l) (sym (rival-others p k)) n)))
+              (gather-In (rival_at (ground_at h r q) (h.plan.col q) (h.plan.tint q)) (ground_at h r q) h.plan.N rr (entry-till h.plan t.planned rr c.entry) k
+              (subst (λ (l : List ℕ). In z l) (sym (rival-others rr k)) n)))

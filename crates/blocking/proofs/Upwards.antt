@@ -24,70 +24,70 @@ use Rattle.blocking.specs.Undo.{Half, rivals_up_to, Below}
 use Rattle.links.proofs.Passing.{rival-inside, KeptColumn, chosen-kept, gathered-none, up-stand, up-falls, up-gathered, last-gathered}
 use Rattle.blocking.proofs.RivalTest.{rival→, rival←}
 
--- A walk up a column has put p's option back, and not gone on yet: the rivals above p are out still.
-pub record Above (g : Ground) (tints : List ℕ) (p x s : ℕ) (heads : List ℤ) (up down : List ℕ) : Type 0 where
+-- A walk up a column has put rr's option back, and not gone on yet: the rivals above rr are out still.
+pub record Above (g : Ground) (tints : List ℕ) (rr x s : ℕ) (heads : List ℤ) (up down : List ℕ) : Type 0 where
   pub tidy : Tidy g
   pub tinted : Tinted g.plan tints
   pub starts : s ≡ start g.plan
-  pub on : g.on p ≡ true
-  pub entry : EntryOf g.plan p
-  pub fresh : Fresh g (gather_to (rival_at g (g.plan.col p) x) g p)
-  pub holds : Holds (taken g (gather_to (rival_at g (g.plan.col p) x) g p)) heads up down
+  pub on : g.on rr ≡ true
+  pub entry : EntryOf g.plan rr
+  pub fresh : Fresh g (gather_to (rival_at g (g.plan.col rr) x) g rr)
+  pub holds : Holds (taken g (gather_to (rival_at g (g.plan.col rr) x) g rr)) heads up down
 
--- At an entry p of a column of g, of which the rivals above p are out: after p itself is put back, the step up.
-module _ {g : Ground} {tints : List ℕ} {p x s : ℕ} {heads : List ℤ} {up down : List ℕ} (m : Below g tints p x s heads up down) where
+-- At an entry rr of a column of g, of which the rivals above rr are out: after rr itself is put back, the step up.
+module _ {g : Ground} {tints : List ℕ} {rr x s : ℕ} {heads : List ℤ} {up down : List ℕ} (m : Below g tints rr x s heads up down) where
   abbrev rival_here : ℕ → Bool
-  rival_here = rival_at g (g.plan.col p) x
+  rival_here = rival_at g (g.plan.col rr) x
 
-  pub below-done : p < s → Holds g heads up down
+  pub below-done : rr < s → Holds g heads up down
   below-done h =
       subst (λ (xs : List ℕ). Holds (taken g xs) heads up down)
-      (gathered-none m.tidy (g.plan.col p) rival_here (λ k. rival-inside g (g.plan.col p) k x) (p + 1) (omega (arith, m.starts))) m.holds
+      (gathered-none m.tidy (g.plan.col rr) rival_here (λ k. rival-inside g (g.plan.col rr) k x) (rr + 1) (omega (arith, m.starts))) m.holds
 
-  module _ (h : s ≤ p) where
-    pub below-entry : EntryOf g.plan p
-    below-entry = on-entry g m.tidy p m.on (omega (arith, m.starts))
+  module _ (h : s ≤ rr) where
+    pub below-entry : EntryOf g.plan rr
+    below-entry = on-entry g m.tidy rr m.on (omega (arith, m.starts))
 
-    pub below-tint : p < length tints
-    below-tint = omega (arith, entry-till g.plan m.tidy.planned p below-entry, m.tinted.room)
+    pub below-tint : rr < length tints
+    below-tint = omega (arith, entry-till g.plan m.tidy.planned rr below-entry, m.tinted.room)
 
-    -- p clashes: the walk round it is undone
-    module _ (b : not (agree x (at tints p)) ≡ true) where
-      chosen : rival_here p ≡ true
-      chosen = rival← g (g.plan.col p) x p m.on refl (omega (arith, m.starts)) (ap (agree x) (sym (m.tinted.tint p below-entry)) ∙ not-true (agree x (at tints p)) b)
+    -- rr clashes: the walk round it is undone
+    module _ (b : not (agree x (at tints rr)) ≡ true) where
+      chosen : rival_here rr ≡ true
+      chosen = rival← g (g.plan.col rr) x rr m.on refl (omega (arith, m.starts)) (ap (agree x) (sym (m.tinted.tint rr below-entry)) ∙ not-true (agree x (at tints rr)) b)
 
-      split : rivals_up_to g x p ≡ gather_to rival_here g p ++ others g p
-      split = gather-one rival_here g p chosen
+      split : rivals_up_to g x rr ≡ gather_to rival_here g rr ++ others g rr
+      split = gather-one rival_here g rr chosen
 
-      fresh-both : Fresh g (gather_to rival_here g p ++ others g p)
+      fresh-both : Fresh g (gather_to rival_here g rr ++ others g rr)
       fresh-both = subst (λ (xs : List ℕ). Fresh g xs) split m.fresh
 
-      fresh-before : Fresh g (gather_to rival_here g p)
-      fresh-before = fresh-front g (gather_to rival_here g p) (others g p) fresh-both
+      fresh-before : Fresh g (gather_to rival_here g rr)
+      fresh-before = fresh-front g (gather_to rival_here g rr) (others g rr) fresh-both
 
       abbrev old : Ground
-      old = after g (gather_to rival_here g p)
+      old = after g (gather_to rival_here g rr)
 
-      all_others : others g p ≡ walked old p (p - 1 + 1)
+      all_others : others g rr ≡ walked old rr (rr - 1 + 1)
       unfolding others
-      all_others = sym (after-others g (gather_to rival_here g p) m.tidy fresh-before p below-entry) ∙ ap (walked old p) (sym (back-begun g m.tidy p below-entry))
+      all_others = sym (after-others g (gather_to rival_here g rr) m.tidy fresh-before rr below-entry) ∙ ap (walked old rr) (sym (back-begun g m.tidy rr below-entry))
 
-      pub below_half : Half (after g (gather_to (rival_at g (g.plan.col p) x) g p)) p (p - 1) heads up down
+      pub below_half : Half (after g (gather_to (rival_at g (g.plan.col rr) x) g rr)) rr (rr - 1) heads up down
       below_half =
-          let b = back-begins g m.tidy p below-entry in
+          let b = back-begins g m.tidy rr below-entry in
           record {
-            tidy = after-tidy g (gather_to rival_here g p) m.tidy fresh-before;
+            tidy = after-tidy g (gather_to rival_here g rr) m.tidy fresh-before;
             entry = below-entry;
             from = b.from;
             till = b.till;
-            fresh = subst (λ (xs : List ℕ). Fresh old xs) all_others (fresh-after g (gather_to rival_here g p) (others g p) fresh-both);
+            fresh = subst (λ (xs : List ℕ). Fresh old xs) all_others (fresh-after g (gather_to rival_here g rr) (others g rr) fresh-both);
             holds = subst (λ (xs : List ℕ). Holds (taken old xs) heads up down) all_others
-                (subst (λ (G : Ground). Holds G heads up down) (ap (taken g) split ∙ sym (after_more g (gather_to rival_here g p) (others g p))) m.holds);
+                (subst (λ (G : Ground). Holds G heads up down) (ap (taken g) split ∙ sym (after_more g (gather_to rival_here g rr) (others g rr))) m.holds);
           }
 
-      -- p's option is whole again
-      pub clash-above : {heads' : List ℤ} {up' down' : List ℕ} → Holds (after g (gather_to (rival_at g (g.plan.col p) x) g p)) heads' up' down'
-          → Above g tints p x s heads' up' down'
+      -- rr's option is whole again
+      pub clash-above : {heads' : List ℤ} {up' down' : List ℕ} → Holds (after g (gather_to (rival_at g (g.plan.col rr) x) g rr)) heads' up' down'
+          → Above g tints rr x s heads' up' down'
       clash-above l = record {
         tidy = m.tidy;
         tinted = m.tinted;
@@ -95,62 +95,62 @@ module _ {g : Ground} {tints : List ℕ} {p x s : ℕ} {heads : List ℤ} {up do
         on = m.on;
         entry = below-entry;
         fresh = fresh-before;
-        holds = holds-taken g (gather_to rival_here g p) l;
+        holds = holds-taken g (gather_to rival_here g rr) l;
       }
 
-    -- p agrees: nothing was taken there
-    module _ (b : not (agree x (at tints p)) ≡ false) where
-      agrees : rival_here p ≡ false
-      agrees = not_so (rival_here p) (λ e. false≢true (sym (rival→ g (g.plan.col p) x p e).3 ∙ ap (agree x) (sym (m.tinted.tint p below-entry)) ∙ not-false (agree x (at tints p)) b))
+    -- rr agrees: nothing was taken there
+    module _ (b : not (agree x (at tints rr)) ≡ false) where
+      agrees : rival_here rr ≡ false
+      agrees = not_so (rival_here rr) (λ e. false≢true (sym (rival→ g (g.plan.col rr) x rr e).3 ∙ ap (agree x) (sym (m.tinted.tint rr below-entry)) ∙ not-false (agree x (at tints rr)) b))
 
-      pub agree-above : Above g tints p x s heads up down
+      pub agree-above : Above g tints rr x s heads up down
       agree-above = record {
         tidy = m.tidy;
         tinted = m.tinted;
         starts = m.starts;
         on = m.on;
         entry = below-entry;
-        fresh = subst (λ (xs : List ℕ). Fresh g xs) (gather_none rival_here g p agrees) m.fresh;
-        holds = subst (λ (xs : List ℕ). Holds (taken g xs) heads up down) (gather_none rival_here g p agrees) m.holds;
+        fresh = subst (λ (xs : List ℕ). Fresh g xs) (gather_none rival_here g rr agrees) m.fresh;
+        holds = subst (λ (xs : List ℕ). Holds (taken g xs) heads up down) (gather_none rival_here g rr agrees) m.holds;
       }
 
 -- The step up from there.
-module _ {g : Ground} {tints : List ℕ} {p x s : ℕ} {heads : List ℤ} {up down : List ℕ} (m : Above g tints p x s heads up down) where
+module _ {g : Ground} {tints : List ℕ} {rr x s : ℕ} {heads : List ℤ} {up down : List ℕ} (m : Above g tints rr x s heads up down) where
   abbrev above : List ℕ
-  above = gather_to (rival_at g (g.plan.col p) x) g p
+  above = gather_to (rival_at g (g.plan.col rr) x) g rr
 
-  inside : (k : ℕ) → rival_at g (g.plan.col p) x k ≡ true → in_column g (g.plan.col p) k ≡ true
-  inside k = rival-inside g (g.plan.col p) k x
+  inside : (k : ℕ) → rival_at g (g.plan.col rr) x k ≡ true → in_column g (g.plan.col rr) k ≡ true
+  inside k = rival-inside g (g.plan.col rr) k x
 
-  column : KeptColumn g (g.plan.col p) above
-  column = chosen-kept m.tidy (g.plan.col p) (rival_at g (g.plan.col p) x) inside (m.tidy.planned.entry p m.entry) p m.fresh
+  column : KeptColumn g (g.plan.col rr) above
+  column = chosen-kept m.tidy (g.plan.col rr) (rival_at g (g.plan.col rr) x) inside (m.tidy.planned.entry rr m.entry) rr m.fresh
 
-  stand : Stand g (g.plan.col p) p
+  stand : Stand g (g.plan.col rr) rr
   stand = record { on = m.on; col = refl }
 
-  pub link-in : p < length up
-  link-in = rw m.holds.up-are (omega (arith, entry-till g.plan m.tidy.planned p m.entry, column.now.ring.ups))
+  pub link-in : rr < length up
+  link-in = rw m.holds.up-are (omega (arith, entry-till g.plan m.tidy.planned rr m.entry, column.now.ring.ups))
 
-  pub link-falls : {u : ℕ} → u ≡ at up p → u < p
-  link-falls a = rw (a, m.holds.up-are) (up-falls column p stand m.entry)
+  pub link-falls : {u : ℕ} → u ≡ at up rr → u < rr
+  link-falls a = rw (a, m.holds.up-are) (up-falls column rr stand m.entry)
 
-  same-list : above ≡ rivals_up_to g x (at up p)
+  same-list : above ≡ rivals_up_to g x (at up rr)
   same-list =
-      up-gathered column p stand (rival_at g (g.plan.col p) x) inside m.entry
-      ∙ ap (λ (u : List ℕ). gather_to (rival_at g (g.plan.col p) x) g (at u p + 1)) (sym m.holds.up-are)
-      ∙ ap (λ (i : ℕ). gather_to (rival_at g i x) g (at up p + 1)) (sym (ap (λ (u : List ℕ). g.plan.col (at u p)) m.holds.up-are ∙ (up-stand column p stand).col))
+      up-gathered column rr stand (rival_at g (g.plan.col rr) x) inside m.entry
+      ∙ ap (λ (u : List ℕ). gather_to (rival_at g (g.plan.col rr) x) g (at u rr + 1)) (sym m.holds.up-are)
+      ∙ ap (λ (i : ℕ). gather_to (rival_at g i x) g (at up rr + 1)) (sym (ap (λ (u : List ℕ). g.plan.col (at u rr)) m.holds.up-are ∙ (up-stand column rr stand).col))
 
-  stepped : Below g tints (at up p) x s heads up down
+  stepped : Below g tints (at up rr) x s heads up down
   stepped = record {
     tidy = m.tidy;
     tinted = m.tinted;
     starts = m.starts;
-    on = rw m.holds.up-are (up-stand column p stand).on;
+    on = rw m.holds.up-are (up-stand column rr stand).on;
     fresh = subst (λ (xs : List ℕ). Fresh g xs) same-list m.fresh;
     holds = subst (λ (xs : List ℕ). Holds (taken g xs) heads up down) same-list m.holds;
   }
 
-  pub step-up : {u : ℕ} → u ≡ at up p → Below g tints u x s heads up down
+  pub step-up : {u : ℕ} → u ≡ at up rr → Below g tints u x s heads up down
   step-up a = subst (λ (j : ℕ). Below g tints j x s heads up down) (sym a) stepped
 
 -- From the header i the link up leads to the lowest node of a column of which all rivals are out.

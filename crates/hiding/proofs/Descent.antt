@@ -51,10 +51,10 @@ module _ {g : Ground} {tints : List ℕ} {c from : ℕ} (w : Column g tints c fr
   renamed {np} {heads} {up} {down} {stack} e k = subst (λ (l : List ℕ). Gone g l np heads up down stack) e k
 
   -- in column c the links are those of the whole ground
-  column-down : (k : ℕ) {heads : List ℤ} {up down : List ℕ} → Holds (taken g (out k)) heads up down → {p : ℕ} → Stand g c p → at down p ≡ at g.down p
-  column-down k h {p} s =
-      ap (λ (l : List ℕ). at l p) h.down-are
-      ∙ (away-taken g (out k) t (gathered-rising g w.ready c k)).down-kept p (λ m. gathered-off-column g w.ready c k m (stand-next g t c w.header p s).col)
+  column-down : (k : ℕ) {heads : List ℤ} {up down : List ℕ} → Holds (taken g (out k)) heads up down → {x : ℕ} → Stand g c x → at down x ≡ at g.down x
+  column-down k h {x} s =
+      ap (λ (l : List ℕ). at l x) h.down-are
+      ∙ (away-taken g (out k) t (gathered-rising g w.ready c k)).down-kept x (λ m. gathered-off-column g w.ready c k m (stand-next g t c w.header x s).col)
 
   -- the place is within the lists
   pub within : {heads : List ℤ} {up down : List ℕ} → Holds g heads up down → {rr : ℕ} → Stand g c rr → (rr < length up) × (rr < length down)

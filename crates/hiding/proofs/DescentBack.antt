@@ -41,10 +41,10 @@ module _ {g : Ground} {tints : List ℕ} {c from : ℕ} (w : Column g tints c fr
   out-rising k l = rising-rest g (gather_to (hidden g c) g k) (out k) (subst (λ (xs : List ℕ). Rising g xs) (gather-split (hidden g c) g k l) (gathered-rising g w.ready c g.plan.N))
 
   -- in column c the links are those of the whole ground
-  column-down : (k : ℕ) → k ≤ g.plan.N → {heads : List ℤ} {up down : List ℕ} → Away g (out k) heads up down → {p : ℕ} → Stand g c p → at down p ≡ at g.down p
-  column-down k l a {p} s =
-      a.down-kept p (λ m. gathered-off-column g w.ready c g.plan.N
-      (subst (λ (xs : List ℕ). In (at g.down p) xs) (sym (gather-split (hidden g c) g k l)) (In-append-r (gather_to (hidden g c) g k) m)) (stand-next g t c w.header p s).col)
+  column-down : (k : ℕ) → k ≤ g.plan.N → {heads : List ℤ} {up down : List ℕ} → Away g (out k) heads up down → {x : ℕ} → Stand g c x → at down x ≡ at g.down x
+  column-down k l a {x} s =
+      a.down-kept x (λ m. gathered-off-column g w.ready c g.plan.N
+      (subst (λ (xs : List ℕ). In (at g.down x) xs) (sym (gather-split (hidden g c) g k l)) (In-append-r (gather_to (hidden g c) g k) m)) (stand-next g t c w.header x s).col)
 
   -- where the walk begins, all are away
   module _ {heads : List ℤ} {up down : List ℕ} (k : Holds (taken g (hides g c)) heads up down) where

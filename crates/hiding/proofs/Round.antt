@@ -34,19 +34,19 @@ choice : (b : Bool) (cc w : ℕ) → cc ≢ 0 → cond b (Some cc) (column w) �
 choice true cc w n = column_of cc n
 choice false cc w n = refl
 
--- The walk from rr on stands at nn: the lists are without what it passed, and the answer says what that emptied.
-pub record Round (g : Ground) (rr np : ℕ) (last : Option ℕ) (heads : List ℤ) (up down : List ℕ) (nn : ℕ) (stack : Option ℕ) : Type 0 where
-  pub place : At g rr nn
-  pub fresh : Fresh g (walked g rr nn)
-  pub holds : Holds (taken g (walked g rr nn)) heads up down
-  pub chosen : Chosen g (walked g rr nn) np last stack
+-- The walk from rr on stands at qq: the lists are without what it passed, and the answer says what that emptied.
+pub record Round (g : Ground) (rr np : ℕ) (last : Option ℕ) (heads : List ℤ) (up down : List ℕ) (qq : ℕ) (stack : Option ℕ) : Type 0 where
+  pub place : At g rr qq
+  pub fresh : Fresh g (walked g rr qq)
+  pub holds : Holds (taken g (walked g rr qq)) heads up down
+  pub chosen : Chosen g (walked g rr qq) np last stack
 
 module _ {g : Ground} {rr np : ℕ} {last : Option ℕ} (a : Around g rr) where
   -- another place with the same nodes passed
-  moved : {heads : List ℤ} {up down : List ℕ} {stack : Option ℕ} (xs : List ℕ) (nn : ℕ) → At g rr nn → walked g rr nn ≡ xs → Fresh g xs
+  moved : {heads : List ℤ} {up down : List ℕ} {stack : Option ℕ} (xs : List ℕ) (qq : ℕ) → At g rr qq → walked g rr qq ≡ xs → Fresh g xs
       → Holds (taken g xs) heads up down → Chosen g xs np last stack
-      → Round g rr np last heads up down nn stack
-  moved {heads} {up} {down} {stack} xs nn p e f k s =
+      → Round g rr np last heads up down qq stack
+  moved {heads} {up} {down} {stack} xs qq p e f k s =
       record {
         place = p;
         fresh = subst (λ (l : List ℕ). Fresh g l) (sym e) f;
@@ -63,52 +63,52 @@ module _ {g : Ground} {rr np : ℕ} {last : Option ℕ} (a : Around g rr) where
   unfolding others
   finish m z e = (last_out g np (others g rr) z, m.chosen z e, record { holds = m.holds; last = refl })
 
-  module _ {heads : List ℤ} {up down : List ℕ} {nn : ℕ} {stack : Option ℕ} (m : Round g rr np last heads up down nn stack) where
-    stands : Underway g (walked g rr nn) rr nn heads up down
+  module _ {heads : List ℤ} {up down : List ℕ} {qq : ℕ} {stack : Option ℕ} (m : Round g rr np last heads up down qq stack) where
+    stands : Underway g (walked g rr qq) rr qq heads up down
     stands = record { tidy = a.tidy; fresh = m.fresh; entry = a.entry; place = m.place; holds = m.holds }
 
     -- the place is within the lists
-    pub inside : (nn < length heads) × (nn < length up)
+    pub inside : (qq < length heads) × (qq < length up)
     inside = Onward.inside stands
 
-    module _ (d : nn ≢ rr) where
+    module _ (d : qq ≢ rr) where
       -- At the boundary or a shortened entry: on by the link up.
-      module _ (z : None ≡ column_in (head heads nn)) where
-        pub over : Round g rr np last heads up down (at up nn) stack
+      module _ (z : None ≡ column_in (head heads qq)) where
+        pub over : Round g rr np last heads up down (at up qq) stack
         over =
-            moved (walked g rr nn) (at up nn) (Onward.over-at stands d (item_none (head heads nn) z))
-            (Onward.over-walked stands d (item_none (head heads nn) z)) m.fresh m.holds m.chosen
+            moved (walked g rr qq) (at up qq) (Onward.over-at stands d (item_none (head heads qq) z))
+            (Onward.over-walked stands d (item_none (head heads qq) z)) m.fresh m.holds m.chosen
 
-        pub over-less : (n : ℕ) → length heads ≡ n → way n rr (at up nn) < way n rr nn
-        over-less = Onward.over-way stands d (item_none (head heads nn) z)
+        pub over-less : (n : ℕ) → length heads ≡ n → way n rr (at up qq) < way n rr qq
+        over-less = Onward.over-way stands d (item_none (head heads qq) z)
 
       -- At an entry: it is taken out.
-      module _ {cc : ℕ} (e : Some cc ≡ column_in (head heads nn)) where
-        an_item : item_of (head heads nn) ≢ 0
-        an_item z = omega (arith, (item_some (head heads nn) cc e).1, z)
+      module _ {cc : ℕ} (e : Some cc ≡ column_in (head heads qq)) where
+        an_item : item_of (head heads qq) ≢ 0
+        an_item z = omega (arith, (item_some (head heads qq) cc e).1, z)
 
         some : cc ≢ 0
-        some z = omega (arith, item_some (head heads nn) cc e, z)
+        some z = omega (arith, item_some (head heads qq) cc e, z)
 
-        col-is : cc ≡ g.plan.col nn
-        col-is = sym (item_some (head heads nn) cc e).0 ∙ Onward.full-col stands d an_item
+        col-is : cc ≡ g.plan.col qq
+        col-is = sym (item_some (head heads qq) cc e).0 ∙ Onward.full-col stands d an_item
 
-        within : Within (after g (walked g rr nn)) nn
+        within : Within (after g (walked g rr qq)) qq
         within = passing-within stands d an_item a.within
 
-        pub unlink-needs : (nn < length up) × (nn < length down) × (at up nn < length down) × (at down nn < length up)
-        unlink-needs = unlink-asks g (walked g rr nn) nn a.tidy m.fresh within m.holds
+        pub unlink-needs : (qq < length up) × (qq < length down) × (at up qq < length down) × (at down qq < length up)
+        unlink-needs = unlink-asks g (walked g rr qq) qq a.tidy m.fresh within m.holds
 
         pub fewer-needs : (cc < length heads) × (item_of (head heads cc) < node_bound) × (0 < item_of (head heads cc))
-        fewer-needs = rw col-is (fewer-asks g (walked g rr nn) nn a.tidy m.fresh within m.holds)
+        fewer-needs = rw col-is (fewer-asks g (walked g rr qq) qq a.tidy m.fresh within m.holds)
 
-        emptied : (z : ℕ) → last_out g np (walked g rr nn ++ (nn ∷ [])) z ≡ cond (eqb (item_of (head heads cc) - 1) 0 && leb cc np) cc (last_out g np (walked g rr nn) z)
-        emptied z = rw col-is (last_out-more g (walked g rr nn) nn m.holds np z)
+        emptied : (z : ℕ) → last_out g np (walked g rr qq ++ (qq ∷ [])) z ≡ cond (eqb (item_of (head heads cc) - 1) 0 && leb cc np) cc (last_out g np (walked g rr qq) z)
+        emptied z = rw col-is (last_out-more g (walked g rr qq) qq m.holds np z)
 
         pub full : {stack₁ : Option ℕ} → stack₁ ≡ cond (eqb (item_of (head heads cc) - 1) 0 && leb cc np) (Some cc) stack
-            → Round g rr np last (set heads cc (pos (item_of (head heads cc) - 1))) (cut_up up down nn) (cut_down up down nn) (nn + 1) stack₁
+            → Round g rr np last (set heads cc (pos (item_of (head heads cc) - 1))) (cut_up up down qq) (cut_down up down qq) (qq + 1) stack₁
         full s =
-            moved (walked g rr nn ++ (nn ∷ [])) (nn + 1) (Onward.full-at stands d an_item) (Onward.full-one stands d an_item)
-            (fresh-one-more g (walked g rr nn) nn a.tidy m.fresh within)
-            (rw col-is (take_out g (walked g rr nn) nn a.tidy m.fresh within m.holds))
-            (λ z q. s ∙ rw (m.chosen z q, emptied z) (choice (eqb (item_of (head heads cc) - 1) 0 && leb cc np) cc (last_out g np (walked g rr nn) z) some))
+            moved (walked g rr qq ++ (qq ∷ [])) (qq + 1) (Onward.full-at stands d an_item) (Onward.full-one stands d an_item)
+            (fresh-one-more g (walked g rr qq) qq a.tidy m.fresh within)
+            (rw col-is (take_out g (walked g rr qq) qq a.tidy m.fresh within m.holds))
+            (λ z q. s ∙ rw (m.chosen z q, emptied z) (choice (eqb (item_of (head heads cc) - 1) 0 && leb cc np) cc (last_out g np (walked g rr qq) z) some))

@@ -18,52 +18,52 @@ use Rattle.links.proofs.Stores.{less?}
 use Rattle.links.proofs.Spans.{keep_join}
 use Rattle.links.proofs.Rows.{At, walk_begins, walked_none, full_at, full-walked, over-at, over-walked}
 
--- the full nodes ahead of a walk round p that stands at nn, in order
+-- the full nodes ahead of a walk round r that stands at q, in order
 abbrev coming : List ℤ → ℕ → ℕ → ℕ → ℕ → List ℕ
-coming heads a b p nn = cond (ltb p nn) (keep (full heads) (span nn b) ++ keep (full heads) (span a p)) (keep (full heads) (span nn p))
+coming heads a b r q = cond (ltb r q) (keep (full heads) (span q b) ++ keep (full heads) (span a r)) (keep (full heads) (span q r))
 
-passed-coming : (heads : List ℤ) (a b p nn : ℕ) → a ≤ p → a ≤ nn → nn ≤ b → passed heads a b p p ≡ passed heads a b p nn ++ coming heads a b p nn
-passed-coming heads a b p nn h i j = rw (le-ltb p p (omega arith)) (⊎_elim onward round (less? p nn))
+passed-coming : (heads : List ℤ) (a b r q : ℕ) → a ≤ r → a ≤ q → q ≤ b → passed heads a b r r ≡ passed heads a b r q ++ coming heads a b r q
+passed-coming heads a b r q h i j = rw (le-ltb r r (omega arith)) (⊎_elim onward round (less? r q))
   where
-    onward : p < nn → keep (full heads) (span (p + 1) b) ++ keep (full heads) (span a p) ≡ passed heads a b p nn ++ coming heads a b p nn
+    onward : r < q → keep (full heads) (span (r + 1) b) ++ keep (full heads) (span a r) ≡ passed heads a b r q ++ coming heads a b r q
     onward l =
-        rw (lt-ltb p nn l)
-        (ap (λ (z : List ℕ). z ++ keep (full heads) (span a p)) (keep_join (full heads) (p + 1) nn b (omega arith) j)
-        ∙ append_assoc (keep (full heads) (span (p + 1) nn)) (keep (full heads) (span nn b)) (keep (full heads) (span a p)))
+        rw (lt-ltb r q l)
+        (ap (λ (z : List ℕ). z ++ keep (full heads) (span a r)) (keep_join (full heads) (r + 1) q b (omega arith) j)
+        ∙ append_assoc (keep (full heads) (span (r + 1) q)) (keep (full heads) (span q b)) (keep (full heads) (span a r)))
 
-    round : nn ≤ p → keep (full heads) (span (p + 1) b) ++ keep (full heads) (span a p) ≡ passed heads a b p nn ++ coming heads a b p nn
+    round : q ≤ r → keep (full heads) (span (r + 1) b) ++ keep (full heads) (span a r) ≡ passed heads a b r q ++ coming heads a b r q
     round l =
-        rw (le-ltb p nn l)
-        (ap (λ (z : List ℕ). keep (full heads) (span (p + 1) b) ++ z) (keep_join (full heads) a nn p i l)
-        ∙ sym (append_assoc (keep (full heads) (span (p + 1) b)) (keep (full heads) (span a nn)) (keep (full heads) (span nn p))))
+        rw (le-ltb r q l)
+        (ap (λ (z : List ℕ). keep (full heads) (span (r + 1) b) ++ z) (keep_join (full heads) a q r i l)
+        ∙ sym (append_assoc (keep (full heads) (span (r + 1) b)) (keep (full heads) (span a q)) (keep (full heads) (span q r))))
 
--- the same in a ground, round p's own option
+-- the same in a ground, round r's own option
 abbrev pub ahead : Ground → ℕ → ℕ → List ℕ
-ahead g p nn = coming g.heads (lo g.plan p) (hi g.plan p) p nn
+ahead g r q = coming g.heads (lo g.plan r) (hi g.plan r) r q
 
-module _ (g : Ground) (t : Tidy g) (p : ℕ) (e : EntryOf g.plan p) where
-  pub walked-ahead : (nn : ℕ) → At g p nn → others g p ≡ walked g p nn ++ ahead g p nn
+module _ (g : Ground) (t : Tidy g) (r : ℕ) (e : EntryOf g.plan r) where
+  pub walked-ahead : (q : ℕ) → At g r q → others g r ≡ walked g r q ++ ahead g r q
   unfolding others
-  walked-ahead nn a = passed-coming g.heads (lo g.plan p) (hi g.plan p) p nn e.from a.from a.till
+  walked-ahead q a = passed-coming g.heads (lo g.plan r) (hi g.plan r) r q e.from a.from a.till
 
-  pub ahead-all : ahead g p (p + 1) ≡ others g p
-  ahead-all = sym (walked-ahead (p + 1) (walk_begins g t p e) ∙ ap (λ (l : List ℕ). l ++ ahead g p (p + 1)) (walked_none g t p e))
+  pub ahead-all : ahead g r (r + 1) ≡ others g r
+  ahead-all = sym (walked-ahead (r + 1) (walk_begins g t r e) ∙ ap (λ (l : List ℕ). l ++ ahead g r (r + 1)) (walked_none g t r e))
 
-  pub ahead_none : ahead g p p ≡ []
+  pub ahead_none : ahead g r r ≡ []
   unfolding others
-  ahead_none = append_cancel_left (walked g p p) _ _ (sym (walked-ahead p (record { from = e.from; till = omega (arith, e.till) })) ∙ sym (append-nil (walked g p p)))
+  ahead_none = append_cancel_left (walked g r r) _ _ (sym (walked-ahead r (record { from = e.from; till = omega (arith, e.till) })) ∙ sym (append-nil (walked g r r)))
 
-  pub ahead-full : (nn : ℕ) → At g p nn → nn ≢ p → item_of (head g.heads nn) ≢ 0 → ahead g p nn ≡ nn ∷ ahead g p (nn + 1)
-  ahead-full nn a d n =
-      append_cancel_left (walked g p nn) _ _
-      (sym (walked-ahead nn a)
-      ∙ walked-ahead (nn + 1) (full_at g t p e nn a n)
-      ∙ ap (λ (l : List ℕ). l ++ ahead g p (nn + 1)) (full-walked g t p e nn a d n)
-      ∙ append_assoc (walked g p nn) (nn ∷ []) (ahead g p (nn + 1)))
+  pub ahead-full : (q : ℕ) → At g r q → q ≢ r → item_of (head g.heads q) ≢ 0 → ahead g r q ≡ q ∷ ahead g r (q + 1)
+  ahead-full q a d n =
+      append_cancel_left (walked g r q) _ _
+      (sym (walked-ahead q a)
+      ∙ walked-ahead (q + 1) (full_at g t r e q a n)
+      ∙ ap (λ (l : List ℕ). l ++ ahead g r (q + 1)) (full-walked g t r e q a d n)
+      ∙ append_assoc (walked g r q) (q ∷ []) (ahead g r (q + 1)))
 
-  pub ahead-over : (nn : ℕ) → At g p nn → nn ≢ p → item_of (head g.heads nn) ≡ 0 → ahead g p (at g.up nn) ≡ ahead g p nn
-  ahead-over nn a d z =
-      append_cancel_left (walked g p nn) _ _
-      (ap (λ (l : List ℕ). l ++ ahead g p (at g.up nn)) (sym (over-walked g t p e nn a d z))
-      ∙ sym (walked-ahead (at g.up nn) (over-at g t p e nn a d z))
-      ∙ walked-ahead nn a)
+  pub ahead-over : (q : ℕ) → At g r q → q ≢ r → item_of (head g.heads q) ≡ 0 → ahead g r (at g.up q) ≡ ahead g r q
+  ahead-over q a d z =
+      append_cancel_left (walked g r q) _ _
+      (ap (λ (l : List ℕ). l ++ ahead g r (at g.up q)) (sym (over-walked g t r e q a d z))
+      ∙ sym (walked-ahead (at g.up q) (over-at g t r e q a d z))
+      ∙ walked-ahead q a)

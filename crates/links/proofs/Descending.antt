@@ -38,67 +38,67 @@ pub column-entry : (g : Ground) → Tidy g → (c k : ℕ) → in_column g c k �
 column-entry g t c k e = let w = column→ g c k e in (on-entry g t k w.0 w.2, w.0, w.1)
 
 -- How far the walk has come when it is at the header again, and at an entry.
-pub reach-past : (P : Plan) (p : ℕ) → p < start P → reach P p ≡ P.N
-reach-past P p l = rw (lt-ltb p (start P) l)
+pub reach-past : (P : Plan) (x : ℕ) → x < start P → reach P x ≡ P.N
+reach-past P x l = rw (lt-ltb x (start P) l)
 
-pub reach-at : (P : Plan) (p : ℕ) → start P ≤ p → reach P p ≡ p
-reach-at P p l = rw (le-ltb p (start P) l)
+pub reach-at : (P : Plan) (x : ℕ) → start P ≤ x → reach P x ≡ x
+reach-at P x l = rw (le-ltb x (start P) l)
 
--- And how far it has still to go from p, by numbers that the code has at hand.
+-- And how far it has still to go from x, by numbers that the code has at hand.
 abbrev pub left : ℕ → ℕ → ℕ → ℕ
-left n first p = cond (ltb p first) 0 (n - p)
+left n first x = cond (ltb x first) 0 (n - x)
 
-pub left_less : (n first p to : ℕ) → first ≤ p → p < n → (p < to) ⊎ (to < first) → left n first to < left n first p
-left_less n first p to h l w =
-    rw (le-ltb p first h)
-    (⊎_elim (λ (k : p < to). rw (le-ltb to first (omega arith)) (omega arith)) (λ (k : to < first). rw (lt-ltb to first k) (omega arith)) w)
+pub left_less : (n first x to : ℕ) → first ≤ x → x < n → (x < to) ⊎ (to < first) → left n first to < left n first x
+left_less n first x to h l w =
+    rw (le-ltb x first h)
+    (⊎_elim (λ (k : x < to). rw (le-ltb to first (omega arith)) (omega arith)) (λ (k : to < first). rw (lt-ltb to first k) (omega arith)) w)
 
--- Node p is in column c.
-pub record Stand (g : Ground) (c p : ℕ) : Type 0 where
-  pub on : g.on p ≡ true
-  pub col : g.plan.col p ≡ c
+-- Node x is in column c.
+pub record Stand (g : Ground) (c x : ℕ) : Type 0 where
+  pub on : g.on x ≡ true
+  pub col : g.plan.col x ≡ c
 
 module _ (g : Ground) (t : Tidy g) (c : ℕ) (hd : Header g.plan c) where
   pub stand-header : g.on c ≡ true → Stand g c c
   stand-header o = record { on = o; col = t.planned.header c hd }
 
-  module _ (p : ℕ) (s : Stand g c p) where
-    tp : Tied g.plan.N g.plan.col g.on g.up g.down p
-    tp = t.ring.tied p s.on
+  module _ (x : ℕ) (s : Stand g c x) where
+    tp : Tied g.plan.N g.plan.col g.on g.up g.down x
+    tp = t.ring.tied x s.on
 
-    pub stand-in : p < g.plan.N
+    pub stand-in : x < g.plan.N
     stand-in = tp.inside
 
-    pub stand-column : start g.plan ≤ p → in_column g c p ≡ true
-    stand-column h = column← g c p s.on s.col h
+    pub stand-column : start g.plan ≤ x → in_column g c x ≡ true
+    stand-column h = column← g c x s.on s.col h
 
-    pub stand-next : Stand g c (at g.down p)
+    pub stand-next : Stand g c (at g.down x)
     stand-next = record { on = tp.below_on; col = tp.below-col ∙ s.col }
 
     -- the node below is an entry further on, or the header
-    step_down : ((p < at g.down p) × (start g.plan ≤ at g.down p)) ⊎ (at g.down p ≡ c)
-    step_down = ⊎_elim (λ l. inl (l, beyond l (t.masked (at g.down p) tp.below_on))) (λ e. inr (e ∙ s.col)) tp.rises
+    step_down : ((x < at g.down x) × (start g.plan ≤ at g.down x)) ⊎ (at g.down x ≡ c)
+    step_down = ⊎_elim (λ l. inl (l, beyond l (t.masked (at g.down x) tp.below_on))) (λ e. inr (e ∙ s.col)) tp.rises
       where
-        beyond : p < at g.down p → Header g.plan (at g.down p) ⊎ EntryOf g.plan (at g.down p) → start g.plan ≤ at g.down p
-        beyond l (inl h) = absurd (omega (arith, l, t.planned.low p, s.col, sym (t.planned.header (at g.down p) h) ∙ stand-next.col))
-        beyond l (inr e) = entry-from g.plan t.planned (at g.down p) e
+        beyond : x < at g.down x → Header g.plan (at g.down x) ⊎ EntryOf g.plan (at g.down x) → start g.plan ≤ at g.down x
+        beyond l (inl h) = absurd (omega (arith, l, t.planned.low x, s.col, sym (t.planned.header (at g.down x) h) ∙ stand-next.col))
+        beyond l (inr e) = entry-from g.plan t.planned (at g.down x) e
 
     -- no entry of the column lies between
-    pub step-gap : (k : ℕ) → p + 1 ≤ k → k < reach g.plan (at g.down p) → in_column g c k ≡ false
+    pub step-gap : (k : ℕ) → x + 1 ≤ k → k < reach g.plan (at g.down x) → in_column g c k ≡ false
     step-gap k a b =
         not_so (in_column g c k) (λ e.
         let h = column→ g c k e in
-        let i = next-is g.plan.N g.plan.col g.on g.up g.down t.ring t.planned.low p k s.on h.0 (h.1 ∙ sym s.col) (omega arith) in
-        ⊎_elim (λ w. omega (arith, i.1, b, reach-at g.plan (at g.down p) w.1)) (λ q. omega (arith, i.0, q, t.planned.low p, s.col)) step_down)
+        let i = next-is g.plan.N g.plan.col g.on g.up g.down t.ring t.planned.low x k s.on h.0 (h.1 ∙ sym s.col) (omega arith) in
+        ⊎_elim (λ w. omega (arith, i.1, b, reach-at g.plan (at g.down x) w.1)) (λ q. omega (arith, i.0, q, t.planned.low x, s.col)) step_down)
 
-    pub step-far : (p + 1 ≤ reach g.plan (at g.down p)) × (reach g.plan (at g.down p) ≤ g.plan.N)
+    pub step-far : (x + 1 ≤ reach g.plan (at g.down x)) × (reach g.plan (at g.down x) ≤ g.plan.N)
     step-far =
-        ⊎_elim (λ w. let e = reach-at g.plan (at g.down p) w.1 in (omega (arith, e, w.0), omega (arith, e, (t.ring.tied (at g.down p) tp.below_on).inside)))
-        (λ q. let e = reach-past g.plan (at g.down p) (omega (arith, q, header-before g.plan t.planned c hd)) in (omega (arith, e, tp.inside), omega (arith, e))) step_down
+        ⊎_elim (λ w. let e = reach-at g.plan (at g.down x) w.1 in (omega (arith, e, w.0), omega (arith, e, (t.ring.tied (at g.down x) tp.below_on).inside)))
+        (λ q. let e = reach-past g.plan (at g.down x) (omega (arith, q, header-before g.plan t.planned c hd)) in (omega (arith, e, tp.inside), omega (arith, e))) step_down
 
-    pub step_less : (n : ℕ) → g.plan.N ≤ n → start g.plan ≤ p → left n (start g.plan) (at g.down p) < left n (start g.plan) p
+    pub step_less : (n : ℕ) → g.plan.N ≤ n → start g.plan ≤ x → left n (start g.plan) (at g.down x) < left n (start g.plan) x
     step_less n l h =
-        left_less n (start g.plan) p (at g.down p) h (omega (arith, stand-in))
+        left_less n (start g.plan) x (at g.down x) h (omega (arith, stand-in))
         (⊎_elim (λ w. inl w.0) (λ q. inr (omega (arith, q, header-before g.plan t.planned c hd))) step_down)
 
   -- no entry of the column lies at or above its header

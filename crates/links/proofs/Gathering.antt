@@ -29,14 +29,14 @@ use Rattle.links.proofs.Rows.{In-others}
 use Rattle.links.proofs.Taken.{fresh-of}
 
 -- A walk round an option meets each node once.
-pub others-distinct : (g : Ground) (p : ℕ) → T (distinct (others g p))
+pub others-distinct : (g : Ground) (r : ℕ) → T (distinct (others g r))
 unfolding others
-others-distinct g p =
-    subst (λ (t : Bool). T (distinct (cond t (keep (full g.heads) (span (p + 1) p)) (keep (full g.heads) (span (p + 1) (hi g.plan p)) ++ keep (full g.heads) (span (lo g.plan p) p)))))
-    (sym (le-ltb p p (omega arith)))
-    (distinct_append (keep (full g.heads) (span (p + 1) (hi g.plan p))) (keep (full g.heads) (span (lo g.plan p) p)) (part (p + 1) (hi g.plan p)) (part (lo g.plan p) p)
-    (λ x m n. let a = In-span (p + 1) (hi g.plan p) (keep→ (full g.heads) (span (p + 1) (hi g.plan p)) m).0 in
-    let b = In-span (lo g.plan p) p (keep→ (full g.heads) (span (lo g.plan p) p) n).0 in omega (arith, a.0, b.1)))
+others-distinct g r =
+    subst (λ (t : Bool). T (distinct (cond t (keep (full g.heads) (span (r + 1) r)) (keep (full g.heads) (span (r + 1) (hi g.plan r)) ++ keep (full g.heads) (span (lo g.plan r) r)))))
+    (sym (le-ltb r r (omega arith)))
+    (distinct_append (keep (full g.heads) (span (r + 1) (hi g.plan r))) (keep (full g.heads) (span (lo g.plan r) r)) (part (r + 1) (hi g.plan r)) (part (lo g.plan r) r)
+    (λ x m n. let a = In-span (r + 1) (hi g.plan r) (keep→ (full g.heads) (span (r + 1) (hi g.plan r)) m).0 in
+    let b = In-span (lo g.plan r) r (keep→ (full g.heads) (span (lo g.plan r) r) n).0 in omega (arith, a.0, b.1)))
   where
     part : (a b : ℕ) → T (distinct (keep (full g.heads) (span a b)))
     part a b = rising-distinct (keep (full g.heads) (span a b)) (ordered-keep ◌<◌ (full g.heads) (span a b) (from-rises a (b - a)))
@@ -48,10 +48,10 @@ module _ (chosen : ℕ → Bool) (g : Ground) where
   gather-same a (suc b) h f = ⊎_elim (λ (e : a ≡ suc b). ap (gather_to chosen g) (sym e)) (λ n. more n (gather-same a b)) (same? a (suc b))
     where
       more : a ≢ suc b → (a ≤ b → ((k : ℕ) → a ≤ k → k < b → chosen k ≡ false) → gather_to chosen g b ≡ gather_to chosen g a) → gather_to chosen g (suc b) ≡ gather_to chosen g a
-      more n r =
+      more n d =
           ap (λ (t : Bool). gather_to chosen g b ++ cond t (others g b) []) (f b (omega arith) (omega arith))
           ∙ append-nil (gather_to chosen g b)
-          ∙ r (omega arith) (λ k i j. f k i (omega arith))
+          ∙ d (omega arith) (λ k i j. f k i (omega arith))
 
   pub gather-one : (k : ℕ) → chosen k ≡ true → gather_to chosen g (k + 1) ≡ gather_to chosen g k ++ others g k
   gather-one k e = ap (gather_to chosen g) (add-one k) ∙ ap (λ (t : Bool). gather_to chosen g k ++ cond t (others g k) []) e
@@ -69,8 +69,8 @@ module _ (chosen : ℕ → Bool) (g : Ground) where
 
       go : In y (gather_to chosen g k) ⊎ In y (cond (chosen k) (others g k) [])
           → (In y (gather_to chosen g k) → (j : ℕ) × (j < k) × (chosen j ≡ true) × In y (others g j)) → (j : ℕ) × (j < suc k) × (chosen j ≡ true) × In y (others g j)
-      go (inl n) r = let w = r n in (w.0, omega (arith, w.1), w.2, w.3)
-      go (inr n) r = own (chosen k) refl n
+      go (inl n) d = let w = d n in (w.0, omega (arith, w.1), w.2, w.3)
+      go (inr n) d = own (chosen k) refl n
 
   pub gather-In : (k j : ℕ) → j < k → chosen j ≡ true → {y : ℕ} → In y (others g j) → In y (gather_to chosen g k)
   gather-In zero j h e m = absurd (omega arith)
@@ -80,7 +80,7 @@ module _ (chosen : ℕ → Bool) (g : Ground) where
       own s = subst (λ (b : Bool). In y (cond b (others g k) [])) (sym (subst (λ (i : ℕ). chosen i ≡ true) s e)) (subst (λ (i : ℕ). In y (others g i)) s m)
 
       earlier : j ≢ k → (j < k → chosen j ≡ true → In y (gather_to chosen g k)) → In y (gather_to chosen g (suc k))
-      earlier n r = In-append-l (cond (chosen k) (others g k) []) (r (omega arith) e)
+      earlier n d = In-append-l (cond (chosen k) (others g k) []) (d (omega arith) e)
 
   -- Where the chosen nodes are entries of one column c, and their others are in their columns:
   module _ (t : Tidy g) (c : ℕ) (entry : (k : ℕ) → chosen k ≡ true → EntryOf g.plan k × (g.plan.col k ≡ c)) where

@@ -40,7 +40,7 @@ pub span_none : (a b : ℕ) → b ≤ a → span a b ≡ []
 span_none a b h = let e : b - a ≡ 0 = omega arith in ap (from a) e
 
 pub In-span : (a b : ℕ) {y : ℕ} → In y (span a b) → (a ≤ y) × (y < b)
-In-span a b m = let r = In-from a (b - a) m in (r.0, omega arith)
+In-span a b m = let u = In-from a (b - a) m in (u.0, omega arith)
 
 pub span-In : (a b : ℕ) {y : ℕ} → a ≤ y → y < b → In y (span a b)
 span-In a b h k = from-In a (b - a) h (omega arith)
@@ -78,76 +78,76 @@ module _ (f : ℕ → Bool) (a b : ℕ) (h : a ≤ b) where
       let m = length-append (keep f (span a b)) (b ∷ keep f (span (b + 1) c)) in
       omega (arith, n, m)
 
-module _ (heads : List ℤ) (a b p : ℕ) where
-  pub passed-begin : passed heads a b p (p + 1) ≡ []
-  passed-begin = rw (lt-ltb p (p + 1) (omega arith)) (ap (keep (full heads)) (span_none (p + 1) (p + 1) (omega arith)))
+module _ (heads : List ℤ) (a b r : ℕ) where
+  pub passed-begin : passed heads a b r (r + 1) ≡ []
+  passed-begin = rw (lt-ltb r (r + 1) (omega arith)) (ap (keep (full heads)) (span_none (r + 1) (r + 1) (omega arith)))
 
-  pub passed-full : (nn : ℕ) → a ≤ nn → nn ≢ p → full heads nn ≡ true → passed heads a b p (nn + 1) ≡ passed heads a b p nn ++ (nn ∷ [])
-  passed-full nn h n f = ⊎_elim ahead behind (less? p nn)
+  pub passed-full : (q : ℕ) → a ≤ q → q ≢ r → full heads q ≡ true → passed heads a b r (q + 1) ≡ passed heads a b r q ++ (q ∷ [])
+  passed-full q h n f = ⊎_elim ahead behind (less? r q)
     where
-      ahead : p < nn → passed heads a b p (nn + 1) ≡ passed heads a b p nn ++ (nn ∷ [])
-      ahead l = rw (lt-ltb p (nn + 1) (omega arith), lt-ltb p nn l) (keep-end (full heads) (p + 1) nn (omega arith) f)
+      ahead : r < q → passed heads a b r (q + 1) ≡ passed heads a b r q ++ (q ∷ [])
+      ahead l = rw (lt-ltb r (q + 1) (omega arith), lt-ltb r q l) (keep-end (full heads) (r + 1) q (omega arith) f)
 
-      behind : nn ≤ p → passed heads a b p (nn + 1) ≡ passed heads a b p nn ++ (nn ∷ [])
+      behind : q ≤ r → passed heads a b r (q + 1) ≡ passed heads a b r q ++ (q ∷ [])
       behind l =
-          rw (le-ltb p (nn + 1) (omega arith), le-ltb p nn l)
-          (ap (λ (z : List ℕ). keep (full heads) (span (p + 1) b) ++ z) (keep-end (full heads) a nn h f)
-          ∙ sym (append_assoc (keep (full heads) (span (p + 1) b)) (keep (full heads) (span a nn)) (nn ∷ [])))
+          rw (le-ltb r (q + 1) (omega arith), le-ltb r q l)
+          (ap (λ (z : List ℕ). keep (full heads) (span (r + 1) b) ++ z) (keep-end (full heads) a q h f)
+          ∙ sym (append_assoc (keep (full heads) (span (r + 1) b)) (keep (full heads) (span a q)) (q ∷ [])))
 
-  pub passed_over : (nn : ℕ) → a ≤ nn → nn ≢ p → full heads nn ≡ false → passed heads a b p (nn + 1) ≡ passed heads a b p nn
-  passed_over nn h n f = ⊎_elim ahead behind (less? p nn)
+  pub passed_over : (q : ℕ) → a ≤ q → q ≢ r → full heads q ≡ false → passed heads a b r (q + 1) ≡ passed heads a b r q
+  passed_over q h n f = ⊎_elim ahead behind (less? r q)
     where
-      ahead : p < nn → passed heads a b p (nn + 1) ≡ passed heads a b p nn
-      ahead l = rw (lt-ltb p (nn + 1) (omega arith), lt-ltb p nn l) (keep-over (full heads) (p + 1) nn (omega arith) f)
+      ahead : r < q → passed heads a b r (q + 1) ≡ passed heads a b r q
+      ahead l = rw (lt-ltb r (q + 1) (omega arith), lt-ltb r q l) (keep-over (full heads) (r + 1) q (omega arith) f)
 
-      behind : nn ≤ p → passed heads a b p (nn + 1) ≡ passed heads a b p nn
-      behind l = rw (le-ltb p (nn + 1) (omega arith), le-ltb p nn l) (ap (λ (z : List ℕ). keep (full heads) (span (p + 1) b) ++ z) (keep-over (full heads) a nn h f))
+      behind : q ≤ r → passed heads a b r (q + 1) ≡ passed heads a b r q
+      behind l = rw (le-ltb r (q + 1) (omega arith), le-ltb r q l) (ap (λ (z : List ℕ). keep (full heads) (span (r + 1) b) ++ z) (keep-over (full heads) a q h f))
 
   -- from the boundary to the first node
-  pub passed-edge : a ≤ p → p < b → passed heads a b p a ≡ passed heads a b p b
-  passed-edge h k = rw (le-ltb p a h, lt-ltb p b k)
-      (ap (λ (z : List ℕ). keep (full heads) (span (p + 1) b) ++ keep (full heads) z) (span_none a a (omega arith)) ∙ append-nil (keep (full heads) (span (p + 1) b)))
+  pub passed-edge : a ≤ r → r < b → passed heads a b r a ≡ passed heads a b r b
+  passed-edge h k = rw (le-ltb r a h, lt-ltb r b k)
+      (ap (λ (z : List ℕ). keep (full heads) (span (r + 1) b) ++ keep (full heads) z) (span_none a a (omega arith)) ∙ append-nil (keep (full heads) (span (r + 1) b)))
 
-  -- what was passed is full, in the row, not p, and not the place
-  pub In-passed : a ≤ p → p < b → (nn : ℕ) → a ≤ nn → nn ≤ b → {y : ℕ} → In y (passed heads a b p nn) → (a ≤ y) × (y < b) × (y ≢ p) × (y ≢ nn) × T (full heads y)
-  In-passed h k nn i j {y} m = ⊎_elim ahead behind (less? p nn)
+  -- what was passed is full, in the row, not r, and not the place
+  pub In-passed : a ≤ r → r < b → (q : ℕ) → a ≤ q → q ≤ b → {y : ℕ} → In y (passed heads a b r q) → (a ≤ y) × (y < b) × (y ≢ r) × (y ≢ q) × T (full heads y)
+  In-passed h k q i j {y} m = ⊎_elim ahead behind (less? r q)
     where
-      ahead : p < nn → (a ≤ y) × (y < b) × (y ≢ p) × (y ≢ nn) × T (full heads y)
+      ahead : r < q → (a ≤ y) × (y < b) × (y ≢ r) × (y ≢ q) × T (full heads y)
       ahead l =
-          let w = keep→ (full heads) (span (p + 1) nn)
-          (subst (λ (t : Bool). In y (cond t (keep (full heads) (span (p + 1) nn)) (keep (full heads) (span (p + 1) b) ++ keep (full heads) (span a nn)))) (lt-ltb p nn l) m) in
-          let s = In-span (p + 1) nn w.0 in
+          let w = keep→ (full heads) (span (r + 1) q)
+          (subst (λ (t : Bool). In y (cond t (keep (full heads) (span (r + 1) q)) (keep (full heads) (span (r + 1) b) ++ keep (full heads) (span a q)))) (lt-ltb r q l) m) in
+          let s = In-span (r + 1) q w.0 in
           (omega arith, omega arith, (λ e. omega (arith, s.0, e)), (λ e. omega (arith, s.1, e)), w.1)
 
-      first : nn ≤ p → In y (keep (full heads) (span (p + 1) b)) ⊎ In y (keep (full heads) (span a nn)) → (a ≤ y) × (y < b) × (y ≢ p) × (y ≢ nn) × T (full heads y)
-      first l (inl n) = let w = keep→ (full heads) (span (p + 1) b) n in let s = In-span (p + 1) b w.0 in
+      first : q ≤ r → In y (keep (full heads) (span (r + 1) b)) ⊎ In y (keep (full heads) (span a q)) → (a ≤ y) × (y < b) × (y ≢ r) × (y ≢ q) × T (full heads y)
+      first l (inl n) = let w = keep→ (full heads) (span (r + 1) b) n in let s = In-span (r + 1) b w.0 in
           (omega arith, s.1, (λ e. omega (arith, s.0, e)), (λ e. omega (arith, s.0, l, e)), w.1)
-      first l (inr n) = let w = keep→ (full heads) (span a nn) n in let s = In-span a nn w.0 in (s.0, omega arith, (λ e. omega (arith, s.1, l, e)), (λ e. omega (arith, s.1, e)), w.1)
+      first l (inr n) = let w = keep→ (full heads) (span a q) n in let s = In-span a q w.0 in (s.0, omega arith, (λ e. omega (arith, s.1, l, e)), (λ e. omega (arith, s.1, e)), w.1)
 
-      behind : nn ≤ p → (a ≤ y) × (y < b) × (y ≢ p) × (y ≢ nn) × T (full heads y)
-      behind l = first l (In-append (keep (full heads) (span (p + 1) b))
-          (subst (λ (t : Bool). In y (cond t (keep (full heads) (span (p + 1) nn)) (keep (full heads) (span (p + 1) b) ++ keep (full heads) (span a nn)))) (le-ltb p nn l) m))
+      behind : q ≤ r → (a ≤ y) × (y < b) × (y ≢ r) × (y ≢ q) × T (full heads y)
+      behind l = first l (In-append (keep (full heads) (span (r + 1) b))
+          (subst (λ (t : Bool). In y (cond t (keep (full heads) (span (r + 1) q)) (keep (full heads) (span (r + 1) b) ++ keep (full heads) (span a q)))) (le-ltb r q l) m))
 
-  -- and all others were passed when the walk is at p again
-  pub passed-all : {y : ℕ} → a ≤ y → y < b → y ≢ p → T (full heads y) → In y (passed heads a b p p)
+  -- and all others were passed when the walk is at r again
+  pub passed-all : {y : ℕ} → a ≤ y → y < b → y ≢ r → T (full heads y) → In y (passed heads a b r r)
   passed-all {y} h k n f = subst (λ (t : Bool). In y
-      (cond t (keep (full heads) (span (p + 1) p)) (keep (full heads) (span (p + 1) b) ++ keep (full heads) (span a p)))) (sym (le-ltb p p (omega arith))) (⊎_elim after before (less? p y))
+      (cond t (keep (full heads) (span (r + 1) r)) (keep (full heads) (span (r + 1) b) ++ keep (full heads) (span a r)))) (sym (le-ltb r r (omega arith))) (⊎_elim after before (less? r y))
     where
-      after : p < y → In y (keep (full heads) (span (p + 1) b) ++ keep (full heads) (span a p))
-      after l = In-append-l (keep (full heads) (span a p)) (keep← (full heads) (span (p + 1) b) (span-In (p + 1) b (omega arith) k) f)
+      after : r < y → In y (keep (full heads) (span (r + 1) b) ++ keep (full heads) (span a r))
+      after l = In-append-l (keep (full heads) (span a r)) (keep← (full heads) (span (r + 1) b) (span-In (r + 1) b (omega arith) k) f)
 
-      before : y ≤ p → In y (keep (full heads) (span (p + 1) b) ++ keep (full heads) (span a p))
-      before l = In-append-r (keep (full heads) (span (p + 1) b)) (keep← (full heads) (span a p) (span-In a p h (omega arith)) f)
+      before : y ≤ r → In y (keep (full heads) (span (r + 1) b) ++ keep (full heads) (span a r))
+      before l = In-append-r (keep (full heads) (span (r + 1) b)) (keep← (full heads) (span a r) (span-In a r h (omega arith)) f)
 
 -- The way falls at each step, and at the jump over the boundary.
-pub way_next : (n p nn : ℕ) → nn ≢ p → nn < n → way n p (nn + 1) < way n p nn
-way_next n p nn d h = ⊎_elim (λ l. rw (lt-ltb p (nn + 1) (omega arith), lt-ltb p nn l) (omega arith)) (λ l. rw (le-ltb p (nn + 1) (omega arith), le-ltb p nn l) (omega arith)) (less? p nn)
+pub way_next : (n r q : ℕ) → q ≢ r → q < n → way n r (q + 1) < way n r q
+way_next n r q d h = ⊎_elim (λ l. rw (lt-ltb r (q + 1) (omega arith), lt-ltb r q l) (omega arith)) (λ l. rw (le-ltb r (q + 1) (omega arith), le-ltb r q l) (omega arith)) (less? r q)
 
-pub way-jump : (n p nn to : ℕ) → p < nn → nn < n → to ≤ p → way n p to < way n p nn
-way-jump n p nn to l h k = rw (le-ltb p to k, lt-ltb p nn l) (omega arith)
+pub way-jump : (n r q to : ℕ) → r < q → q < n → to ≤ r → way n r to < way n r q
+way-jump n r q to l h k = rw (le-ltb r to k, lt-ltb r q l) (omega arith)
 
-pub back-next : (n p q : ℕ) → q ≢ p → 0 < q → q < n → p < n → way_back n p (q - 1) < way_back n p q
-back-next n p q d h k i = ⊎_elim (λ l. rw (lt-ltb (q - 1) p (omega arith), lt-ltb q p l) (omega arith)) (λ l. rw (le-ltb (q - 1) p (omega arith), le-ltb q p l) (omega arith)) (less? q p)
+pub back-next : (n r q : ℕ) → q ≢ r → 0 < q → q < n → r < n → way_back n r (q - 1) < way_back n r q
+back-next n r q d h k i = ⊎_elim (λ l. rw (lt-ltb (q - 1) r (omega arith), lt-ltb q r l) (omega arith)) (λ l. rw (le-ltb (q - 1) r (omega arith), le-ltb q r l) (omega arith)) (less? q r)
 
-pub back-jump : (n p q to : ℕ) → q < p → p ≤ to → to < n → way_back n p to < way_back n p q
-back-jump n p q to l h k = rw (le-ltb to p h, lt-ltb q p l) (omega arith)
+pub back-jump : (n r q to : ℕ) → q < r → r ≤ to → to < n → way_back n r to < way_back n r q
+back-jump n r q to l h k = rw (le-ltb to r h, lt-ltb q r l) (omega arith)
