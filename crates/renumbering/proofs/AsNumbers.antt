@@ -7,6 +7,7 @@ use mathlib.Core.Bool.{false, ◌||◌}
 use mathlib.Core.List.{List, map, Memᴰ as In}
 use mathlib.Core.Option.{Option, none, some}
 use lib.Dec.{T}
+use Rattle.rules.specs.Bounds.{word_bound}
 use Rattle.rules.specs.Lists.{mem}
 use Rattle.rules.specs.Checks.{Refusal}
 use Rattle.rules.specs.Renumber.{Renumbered, renumber_refusal, compact_item, compact_outcome}
@@ -24,11 +25,11 @@ abbrev pub in_numbers : Renumbered → Renumbered
 in_numbers o = record { refusal = o.refusal; out = numbers_of o.out }
 
 -- the places fit, since none is above its item
-places-fit : (kept : List ℕ) (primaries : ℕ) (items : List ℕ) → Renumberable kept primaries → AllKept kept items → Below 4294967296 items
-    → Below 4294967296 (map (compact_item kept primaries) items)
-places-fit kept primaries items s all small = below_each 4294967296 (map (compact_item kept primaries) items) (omega arith) each_fits
+places-fit : (kept : List ℕ) (primaries : ℕ) (items : List ℕ) → Renumberable kept primaries → AllKept kept items → Below word_bound items
+    → Below word_bound (map (compact_item kept primaries) items)
+places-fit kept primaries items s all small = below_each word_bound (map (compact_item kept primaries) items) (omega arith) each_fits
   where
-    each_fits : (x : ℕ) → In x (map (compact_item kept primaries) items) → x < 4294967296
+    each_fits : (x : ℕ) → In x (map (compact_item kept primaries) items) → x < word_bound
     each_fits x m =
         let w = In-map (compact_item kept primaries) items m in
         let v = In-get_or items 0 w.1 in
